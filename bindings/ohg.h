@@ -1,0 +1,60 @@
+/* Uvradine: open hypergraphs in a stored form, checked, built, cut and made explicit.
+ *
+ * Every function takes any bytes and any lists, checks them itself, and ends. A slice is a pointer and then its length in bytes.
+ * Pointers must not be null, even where the length is 0, and no two of the slices of a call may overlap: no check can see that.
+ * What is lent as `const` is never written.
+ *
+ * Every function returns one 64-bit number of three: code, a and b. Code is 0 on success, and a and b are what the function's comment says.
+ * On a refusal code is the refusal's number, a and b are 0, and no answer buffer has been written to. On success the bytes of an answer
+ * buffer past the answer stay as they were.
+ *
+ * docs/INTERFACE.md says more. */
+#ifndef OHG_H
+#define OHG_H
+
+#include <stddef.h>
+#include <stdint.h>
+
+#ifdef __cplusplus
+extern "C" {
+#endif
+
+/* The three numbers of an answer. */
+#define OHG_CODE(answer) ((uint32_t)((answer) & 0xFF))
+#define OHG_A(answer) ((uint32_t)((answer) >> 8 & 0xFFFFFF))
+#define OHG_B(answer) ((uint32_t)((answer) >> 32))
+
+/* Why a call was refused; the first that holds, in this order, after OHG_SHORT_BUFFER for work room that is too short. */
+enum ohg_refusal {
+    OHG_DONE = 0,           /* not refused */
+    OHG_NO_HEADER = 1,      /* fewer than 15 bytes: not a stored form, or cut in its header */
+    OHG_NO_MARK = 2,        /* the first three bytes are not `OHG`: not a stored form */
+    OHG_OTHER_VERSION = 3,  /* the version is not 1: written by a newer tool */
+    OHG_OVER_LIMIT = 4,     /* a count in the header, or the sum of the ports, is above its limit */
+    OHG_OTHER_LENGTH = 5,   /* the length is not what the counts call for: cut short, or bytes follow */
+    OHG_FOREIGN_ID = 6,     /* a stored node id is not below the node count */
+    OHG_BAD_LIST = 7,       /* a list in the call ends in a broken entry, or an id in the call is not below its count */
+    OHG_PENDING_PAIR = 8,   /* the graph has a pending pair, and the operation needs none: merge first */
+    OHG_RESULT_LIMIT = 9,   /* the result would pass a limit: split the drawing */
+    OHG_SHORT_BUFFER = 10   /* an answer buffer is shorter than the answer, or work room is shorter than its macro says */
+};
+
+/* The most bytes that a stored form of version 1 has: an answer buffer of this length is never too short for a graph. */
+#define OHG_FORM_BYTES 49167
+
+/* The bytes that ohg_read answers. */
+#define OHG_SIZES_BYTES 24
+
+/* Reads a stored graph and answers its sizes: six 4-byte little-endian numbers, nodes, edges, ports, global sources, global targets, pairs.
+ * a: 24, the bytes written. b: 0. Refusals: 1 to 6, 10. */
+uint64_t ohg_read(const uint8_t *src, size_t src_len, uint8_t *sizes, size_t sizes_len);
+
+/* Reads a stored graph and writes it. One graph has one form, so the answer is the bytes that were read.
+ * a: the bytes written. b: 0. Refusals: 1 to 6, 10. */
+uint64_t ohg_rewrite(const uint8_t *src, size_t src_len, uint8_t *out, size_t out_len);
+
+#ifdef __cplusplus
+}
+#endif
+
+#endif

@@ -1,0 +1,15 @@
+pub mod ByHand
+pub mod Sets
+pub mod Ascending
+pub mod Core
+pub mod Cycles
+pub mod Degrees
+pub mod Stages
+pub mod Fits
+pub mod Demand3
+pub mod Graphs
+pub mod Stored
+pub mod Engine
+pub mod Invariant
+pub mod Ranks
+pub mod Spiderized

@@ -1,0 +1,14 @@
+pub mod Lists
+pub mod Steps
+pub mod WriteRead
+pub mod ReadWrite
+pub mod Laws
+pub mod Reading
+pub mod Places
+pub mod Verdicts
+pub mod Kept
+pub mod Spiders
+pub mod Sizes
+pub mod Answers
+pub mod Refusals
+pub mod Sentences

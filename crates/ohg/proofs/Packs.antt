@@ -1,0 +1,51 @@
+-- The numbers of every answer fit their bits, and packing what the code answered is packing the definition's answer.
+-- Assumes nothing.
+use mathlib.Core.List.{List}
+use mathlib.Core.Path.{_≡_, refl, sym, subst}
+use Prim.Native.Nat.{ℕ, _≤_, _<_}
+use native.Mathlib.Omega.{arith}
+use lib.ListN.{length}
+use Rattle.form.specs.Form.{written, stored}
+use Rattle.graph.specs.Answer.{Answer, refused, answered}
+use Rattle.graph.specs.Calls.{Next, Made, readCall, onGraph}
+use Rattle.graph.specs.Graph.{Graph, form1, WellFormed}
+use Rattle.le.specs.Le.{Below}
+use Rattle.ohg.specs.Packed.{packedAs, packedWritten, Packs}
+use Rattle.graph.proofs.Answers.{Keeps, on-graph-answer, sizes-length}
+use Rattle.graph.proofs.Laws.{form1-usable, largest}
+use Rattle.graph.proofs.ReadWrite.{read-sound}
+use Rattle.graph.proofs.Refusals.{Listed, on-graph-listed, read-listed}
+
+pub same-made : (a : Answer Made) → packedWritten (written a) ≡ packedAs (λ m. length (m .form)) (λ m. m .id) a
+same-made (refused n) = refl
+same-made (answered m) = refl
+
+pub same-stored : (a : Answer (List ℕ)) → packedWritten (stored a) ≡ packedAs (λ b. length b) (λ b. 0) a
+same-stored (refused n) = refl
+same-stored (answered b) = refl
+
+-- an answer whose refusals are those of 01, and whose numbers are small enough
+made-packs : (a : Answer Made) → Listed a → ((m : Made) → a ≡ answered m → (length (m .form) < 16777216) × (m .id < 4294967296)) → Packs (written a)
+made-packs (refused n) l k = let h = l .number n refl in omega arith
+made-packs (answered m) l k = k m refl
+
+stored-packs : (a : Answer (List ℕ)) → Listed a → ((b : List ℕ) → a ≡ answered b → length b < 16777216) → Packs (stored a)
+stored-packs (refused n) l k = let h = l .number n refl in omega arith
+stored-packs (answered b) l k = (k b refl, omega arith)
+
+-- a call on a stored graph, whose step keeps graphs proper and gives an id of a node or an edge
+pub on-graph-packs : (b : List ℕ) (room : ℕ) (step : Graph → Answer Next) → Below 256 b → Keeps step → ((g : Graph) → Listed (step g))
+    → ((g : Graph) (x : Next) → WellFormed form1 g → step g ≡ answered x → x .id ≤ 2048) → Packs (written (onGraph form1 b room step))
+on-graph-packs b room step t keeps listed small =
+    made-packs (onGraph form1 b room step) (on-graph-listed form1 b room step listed)
+    (λ m e.
+    let h = on-graph-answer form1 form1-usable b room step m t keeps e in
+    let g = h .0 in
+    let x = h .1 in
+    let formed = read-sound form1 b g t (h .2) .formed in
+    let short : length (m .form) ≤ 49167 = subst (λ (l : List ℕ). length l ≤ 49167) (sym (h .4 .written)) (largest (x .graph) (h .4 .formed)) in
+    let id = small g x formed (h .3) in
+    (omega arith, omega (arith, h .5)))
+
+pub read-packs : (b : List ℕ) (room : ℕ) → Packs (stored (readCall form1 b room))
+read-packs b room = stored-packs (readCall form1 b room) (read-listed form1 b room) (λ l e. omega (arith, sizes-length form1 b room l e))
