@@ -25,31 +25,31 @@ module _ (b : List ℕ) (at sum bound : ℕ) (inside : at ≤ length b) (label :
   pub cut : length b - at < 4 → Refused (refusal 5) ≡ edgeStep (length b) sum bound (readEdge form1 sum label (drop at b))
   cut h = ap (edgeStep (length b) sum bound) (sym (edge-cut form1 sum label (drop at b) (rw length-drop h)))
 
-  module _ (x y : ℕ) (is-x : x ≡ numberAt 2 b at) (is-y : y ≡ numberAt 2 b (at + 2)) (counted : 4 ≤ length b - at) where
+  module _ (n : ℕ) (is-n : n ≡ numberAt 2 b at + numberAt 2 b (at + 2)) (counted : 4 ≤ length b - at) where
     there : 4 ≤ length (drop at b)
     there = rw length-drop counted
 
-    second : numberAt 2 (drop at b) 2 ≡ y
-    second = ap (λ (l : List ℕ). number (take 2 l)) (drop-drop 2 at b) ∙ sym is-y
+    both : numberAt 2 (drop at b) 0 + numberAt 2 (drop at b) 2 ≡ n
+    both = ap (λ (l : List ℕ). numberAt 2 b at + number (take 2 l)) (drop-drop 2 at b) ∙ sym is-n
 
-    pub over : 8192 < sum + (x + y) → Refused (refusal 4) ≡ edgeStep (length b) sum bound (readEdge form1 sum label (drop at b))
-    over h = ap (edgeStep (length b) sum bound) (sym (edge-over form1 sum label (drop at b) there (rw (second, ← is-x) h)))
+    pub over : 8192 < sum + n → Refused (refusal 4) ≡ edgeStep (length b) sum bound (readEdge form1 sum label (drop at b))
+    over h = ap (edgeStep (length b) sum bound) (sym (edge-over form1 sum label (drop at b) there (rw both h)))
 
-    module _ (fits : sum + (x + y) ≤ 8192) where
-      pub short : length b - at - 4 < (x + y) * 2 → Refused (refusal 5) ≡ edgeStep (length b) sum bound (readEdge form1 sum label (drop at b))
-      short h =
-          ap (edgeStep (length b) sum bound)
-          (sym (edge-short form1 sum label (drop at b) there (rw (second, ← is-x) fits) (rw (second, ← is-x, length-drop, length-drop) h)))
+    module _ (fits : sum + n ≤ 8192) where
+      pub short : length b - at - 4 < n * 2 → Refused (refusal 5) ≡ edgeStep (length b) sum bound (readEdge form1 sum label (drop at b))
+      short h = ap (edgeStep (length b) sum bound) (sym (edge-short form1 sum label (drop at b) there (rw both fits) (rw (both, length-drop, length-drop) h)))
 
-      pub whole : (x + y) * 2 ≤ length b - at - 4 → (most : ℕ) → most ≡ max bound (reach (numbers 2 (x + y) (drop (at + 4) b)))
-          → Next (sum + (x + y)) (at + 4 + (x + y) * 2) most ≡ edgeStep (length b) sum bound (readEdge form1 sum label (drop at b))
+      pub whole : n * 2 ≤ length b - at - 4 → (most : ℕ) → most ≡ max bound (reach (numbers 2 n (drop (at + 4) b)))
+          → Next (sum + n) (at + 4 + n * 2) most ≡ edgeStep (length b) sum bound (readEdge form1 sum label (drop at b))
       whole h most e =
+          let x = numberAt 2 b at in
+          let y = numberAt 2 (drop at b) 2 in
           let after = drop 4 (drop at b) in
-          let p = edge-step form1 sum label x y (drop at b) after there (sym is-x) second refl fits (rw (length-drop, length-drop) h) in
-          let q : length b - length (drop ((x + y) * 2) after) ≡ at + 4 + (x + y) * 2 = simp length-drop (omega arith) in
-          let ids : numbers 2 x after ++ numbers 2 y (drop (x * 2) after) ≡ numbers 2 (x + y) (drop (at + 4) b) =
-          sym (numbers-append 2 x y after) ∙ ap (numbers 2 (x + y)) (drop-drop 4 at b) in
-          rw (p, length-numbers, length-numbers, q, ids, ← e)
+          let p = edge-step form1 sum label x y (drop at b) after there refl refl refl (rw both fits) (rw (both, length-drop, length-drop) h) in
+          let q : length b - length (drop (n * 2) after) ≡ at + 4 + n * 2 = simp length-drop (omega arith) in
+          let ids : numbers 2 x after ++ numbers 2 y (drop (x * 2) after) ≡ numbers 2 n (drop (at + 4) b) =
+          sym (numbers-append 2 x y after) ∙ ap (λ (k : ℕ). numbers 2 k after) both ∙ ap (numbers 2 n) (drop-drop 4 at b) in
+          rw (p, length-numbers, length-numbers, both, q, ids, ← e)
 
 -- ---- edges, one after the other
 

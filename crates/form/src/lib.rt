@@ -128,7 +128,7 @@ pub fn read_counts(s: &[u8]) -> Reading
 }
 
 // The least bound that is above an id and not below another bound.
-fn above(bound: usize, id: usize) -> usize
+fn above(bound: u32, id: u32) -> u32
     requires { ⌜ id < 65536 ⌝ }
     ensures { λ r. ⌜ r ≡ max bound (id + 1) ⌝ }
 {
@@ -136,25 +136,24 @@ fn above(bound: usize, id: usize) -> usize
 }
 
 // The least bound that is above each of the n ids from `at` on and not below another bound. Ids are looked at once and nothing is decided here.
-fn reach_of(s: &[u8], at: usize, n: usize, bound: usize) -> usize
+fn reach_of(s: &[u8], at: usize, n: usize, bound: u32) -> u32
     requires { ⌜ at + n * 2 ≤ length (now s) ⌝ }
     ensures { λ r. ⌜ r ≡ max bound (reach (numbers 2 n (drop at (now (s .entry))))) ⌝ }
 {
+    let end = at + n * WIDTH;
     let mut most = bound;
-    for k in 0..n {
-        let id = count_at(s, at + k * WIDTH);
+    let mut place = at;
+    while place < end {
+        let id = le::get2(s, place);
         most = above(most, id);
+        place += WIDTH;
     }
     most
 }
 
 // Where reading stands after an edge or several: the port sum, the next place, and how far the ids reach.
 pub enum Step {
-    Next {
-        ports: usize,
-        at: usize,
-        bound: usize,
-    },
+    Next { ports: usize, at: usize, bound: u32 },
     Refused(Refusal),
 }
 
@@ -174,9 +173,18 @@ impl Step {
     }
 }
 
+// How many entries the edge at a place has: its source count and its target count, read as one number.
+fn ports_at(s: &[u8], at: usize) -> usize
+    requires { ⌜ at + 4 ≤ length (now s) ⌝ }
+    ensures { λ r. ⌜ (r ≡ numberAt 2 (now (s .entry)) at + numberAt 2 (now (s .entry)) (at + 2)) × (r < 131072) ⌝ }
+{
+    let both = le::get4(s, at) as usize;
+    both % 65536 + both / 65536
+}
+
 // One edge, after edges of this port sum whose ids reach so far. 5 its two counts are not wholly there, 4 the port sum passes its limit,
 // 5 its ids are not all there.
-fn read_edge(s: &[u8], at: usize, sum: usize, bound: usize) -> Step
+fn read_edge(s: &[u8], at: usize, sum: usize, bound: u32) -> Step
     requires { ⌜ (at ≤ length (now s)) × (sum ≤ 8192) ⌝ }
     ensures { λ r. ⌜ ((label : ℕ) → r ≡ edgeStep (length (now (s .entry))) sum bound (readEdge form1 sum label (drop at (now (s .entry))))) ⌝ }
 {
@@ -184,9 +192,7 @@ fn read_edge(s: &[u8], at: usize, sum: usize, bound: usize) -> Step
     if left < 4 {
         return Step::Refused(Refusal { no: 5 });
     }
-    let sources = count_at(s, at);
-    let targets = count_at(s, at + WIDTH);
-    let n = sources + targets;
+    let n = ports_at(s, at);
     let ports = sum + n;
     if graph::MAX_PORTS < ports {
         return Step::Refused(Refusal { no: 4 });
@@ -209,7 +215,7 @@ fn read_edges(s: &[u8], start: usize, edges: usize) -> Step
 {
     let mut at = start;
     let mut ports: usize = 0;
-    let mut bound: usize = 0;
+    let mut bound: u32 = 0;
     for i in 0..edges {
         let step = read_edge(s, at, ports, bound);
         let Step::Next {
@@ -228,7 +234,7 @@ fn read_edges(s: &[u8], start: usize, edges: usize) -> Step
 }
 
 // After the last edge: 5 another length than the counts call for, 6 an id not below the node count.
-fn read_lists(s: &[u8], z: Sizes, ports: usize, at: usize, bound: usize) -> Reading
+fn read_lists(s: &[u8], z: Sizes, ports: usize, at: usize, bound: u32) -> Reading
     requires { ⌜ (at ≤ length (now s)) × (z .sources ≤ 1024) × (z .targets ≤ 1024) × (z .pairs ≤ 1024) ⌝ }
     ensures { λ r. ⌜ ((body : List ℕ) (edges : List Edge) → length edges ≡ z .edges → length (edgeEntries edges) ≡ ports → reach (edgeEntries edges) ≡ bound
         → r ≡ reading (readLists form1 (countsOf z) body edges (drop at (now (s .entry))))) ⌝ }
@@ -237,7 +243,7 @@ fn read_lists(s: &[u8], z: Sizes, ports: usize, at: usize, bound: usize) -> Read
     if s.len() - at != ids * WIDTH {
         return Reading::Refused(Refusal { no: 5 });
     }
-    if z.nodes < reach_of(s, at, ids, bound) {
+    if z.nodes < reach_of(s, at, ids, bound) as usize {
         return Reading::Refused(Refusal { no: 6 });
     }
     Reading::Sized(Sizes {
@@ -303,7 +309,7 @@ pub fn id_list(ids: &[u8], count: usize) -> Listed
         return Listed::Refused(Refusal { no: 7 });
     }
     let n = ids.len() / WIDTH;
-    if count < reach_of(ids, 0, n, 0) {
+    if count < reach_of(ids, 0, n, 0) as usize {
         return Listed::Refused(Refusal { no: 7 });
     }
     Listed::Entries(n)

@@ -36,6 +36,12 @@ number-four b i h =
     )
     (omega arith)
 
+-- a number of four bytes is two of two
+pub number-halves : (b : List ℕ) (i : ℕ) → i + 4 ≤ length b → numberAt 4 b i ≡ numberAt 2 b i + 65536 * numberAt 2 b (i + 2)
+number-halves b i h =
+    let a : i + 2 + 1 ≡ i + 3 = omega arith in
+    omega (arith, number-four b i h, number-two b i (omega arith), number-two b (i + 2) (omega arith), ap (λ (k : ℕ). getD b k 0) a)
+
 -- a number of a part is a number of the whole
 pub number-drop : (w : ℕ) (b : List ℕ) (n at : ℕ) → numberAt w (drop n b) at ≡ numberAt w b (n + at)
 number-drop w b n at = ap (λ (l : List ℕ). number (take w l)) (drop-drop at n b)

@@ -22,6 +22,9 @@ returns c = rw (ne-eqb _ _ (c .if1 .taken))
 reach-of-requires : tie.Need-reach-of-requires
 reach-of-requires c κs = search needs
 
+cast-if2 : tie.Need-cast-if2
+cast-if2 c = omega arith
+
 returns-2 : tie.Need-returns-2
 unfolding idList _else_ _>>_
 returns-2 c =
@@ -39,4 +42,4 @@ returns-3 c =
     rw (eq-eqb _ _ (c .before .before .if1 .left), e, le-leb _ _ l, length-numbers)
 
 pub id-list-spec : {M : Type 1} → statement M
-id-list-spec = tie.close (tie.spec returns reach-of-requires returns-2 returns-3)
+id-list-spec = tie.close (tie.spec returns reach-of-requires cast-if2 returns-2 returns-3)

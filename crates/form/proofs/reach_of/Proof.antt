@@ -1,8 +1,7 @@
 -- `form::reach_of` meets its contract.
 -- Assumes nothing.
 use mathlib.Core.Path.{_≡_, sym, ap, _∙_}
-use Prim.Native.Nat.{ℕ, _≤_, _-_, _+_, _*_, max}
-use native.Mathlib.Nat.{le-antisymm}
+use Prim.Native.Nat.{ℕ, _≤_, _-_, _+_, _*_, _/_, max}
 use native.Mathlib.Omega.{arith}
 use lib.ListN.{drop}
 use denote.Ref.{now}
@@ -14,28 +13,32 @@ use Rattle.form.proofs.reach_of.Statement.{statement}
 use Rattle.form.proofs.reach_of.Tie as tie
 
 abbrev Inv-loop : tie.InvT-loop
-Inv-loop s at n bound most₀ k₀ most k = (k ≤ n) × (most ≡ max bound (reach (numbers 2 k (drop at s))))
+Inv-loop s at n bound end most₀ place₀ most place =
+    (at ≤ place) × (place ≤ end) × (place ≡ at + (place - at) / 2 * 2) × (most ≡ max bound (reach (numbers 2 ((place - at) / 2) (drop at s))))
 
 abbrev μ-loop : tie.MeasureT-loop
-μ-loop s at n bound most₀ k₀ most k = n - k
+μ-loop s at n bound end most₀ place₀ most place = end - place
+
+mul-end : tie.Need-mul-end Inv-loop μ-loop
+mul-end c = omega arith
+
+add-end : tie.Need-add-end Inv-loop μ-loop
+add-end c = omega arith
 
 loop-holds : tie.Need-loop-holds Inv-loop μ-loop
-loop-holds c = (omega arith, omega arith)
+loop-holds c =
+    let a = c .before .args in
+    let none : (a .at - a .at) / 2 ≡ 0 = omega arith in
+    (omega arith, omega arith, omega arith, omega (arith, ap (λ (k : ℕ). reach (numbers 2 k (drop (a .at) (now (a .s))))) none))
 
-mul-count-at : tie.Need-mul-count-at Inv-loop μ-loop
-mul-count-at c = omega arith
-
-add-count-at : tie.Need-add-count-at Inv-loop μ-loop
-add-count-at c = omega arith
-
-count-at-requires : tie.Need-count-at-requires Inv-loop μ-loop
-count-at-requires c κs = omega arith
+get2-requires : tie.Need-get2-requires Inv-loop μ-loop
+get2-requires c κs = omega arith
 
 above-requires : tie.Need-above-requires Inv-loop μ-loop
 above-requires c κs = omega arith
 
-add-k : tie.Need-add-k Inv-loop μ-loop
-add-k c = omega arith
+add-place : tie.Need-add-place Inv-loop μ-loop
+add-place c = omega arith
 
 loop-less : tie.Need-loop-less Inv-loop μ-loop
 loop-less c = omega arith
@@ -44,16 +47,24 @@ loop-again : tie.Need-loop-again Inv-loop μ-loop
 loop-again c =
     let a = c .before .before .before .before .before .args in
     let l = c .before .before .before .loop in
-    let x : c .before .count-at .result ≡ numberAt 2 (drop (a .at) (now (a .s))) (l .k * 2) =
-    c .before .count-at .ensures .0 ∙ sym (number-drop 2 (now (a .s)) (a .at) (l .k * 2)) in
-    let more = reach-next (a .bound) (l .k) (drop (a .at) (now (a .s))) (c .before .count-at .result) x in
-    (omega arith, c .above .ensures ∙ ap (λ (m : ℕ). max m (c .before .count-at .result + 1)) (l .inv .1) ∙ more)
+    let k = (l .place - a .at) / 2 in
+    let b = drop (a .at) (now (a .s)) in
+    let id = c .before .get2 .result in
+    let x : id ≡ numberAt 2 b (k * 2) =
+    c .before .get2 .ensures .0 ∙ ap (numberAt 2 (now (a .s))) (l .inv .2) ∙ sym (number-drop 2 (now (a .s)) (a .at) (k * 2)) in
+    let next : k + 1 ≡ (l .place + 2 - a .at) / 2 = omega arith in (
+      omega arith,
+      omega arith,
+      omega arith,
+      c .above .ensures ∙ ap (λ (m : ℕ). max m (id + 1)) (l .inv .3) ∙ reach-next (a .bound) k b id x ∙ ap (λ (m : ℕ). max (a .bound) (reach (numbers 2 m b))) next,
+    )
 
 returns : tie.Need-returns Inv-loop μ-loop
 returns c =
+    let a = c .before .before .before .args in
     let l = c .before .loop in
-    let e = le-antisymm (l .inv .0) (c .loop-test .left) in
-    rw (← e) (l .inv .1)
+    let all : (l .place - a .at) / 2 ≡ a .n = omega arith in
+    l .inv .3 ∙ ap (λ (m : ℕ). max (a .bound) (reach (numbers 2 m (drop (a .at) (now (a .s)))))) all
 
 pub reach-of-spec : {M : Type 1} → statement M
 reach-of-spec =
@@ -61,12 +72,12 @@ reach-of-spec =
     (tie.spec
     Inv-loop
     μ-loop
+    mul-end
+    add-end
     loop-holds
-    mul-count-at
-    add-count-at
-    count-at-requires
+    get2-requires
     above-requires
-    add-k
+    add-place
     loop-less
     loop-again
     returns)

@@ -13,29 +13,20 @@ sub-left c = search needs
 returns : tie.Need-returns
 returns c = λ label. cut (now (c .before .before .args .s)) (c .before .before .args .at) (c .before .before .args .sum) (c .before .before .args .bound) (omega arith) label (omega arith)
 
-count-at-requires : tie.Need-count-at-requires
-count-at-requires c κs = search needs
-
-add-count-at : tie.Need-add-count-at
-add-count-at c = search needs
-
-count-at-requires-2 : tie.Need-count-at-requires-2
-count-at-requires-2 c κs = search needs
-
-add-n : tie.Need-add-n
-add-n c = search needs
+ports-at-requires : tie.Need-ports-at-requires
+ports-at-requires c κs = search needs
 
 add-ports : tie.Need-add-ports
 add-ports c = search needs
 
 returns-2 : tie.Need-returns-2
-returns-2 c = λ label. over (now (c .before .before .before .before .before .args .s)) (c .before .before .before .before .before .args .at) (c .before .before .before .before .before .args .sum) (c .before .before .before .before .before .args .bound) (omega arith) label (c .before .before .count-at .result) (c .before .count-at2 .result) (c .before .before .count-at .ensures .0) (c .before .count-at2 .ensures .0) (omega arith) (omega arith)
+returns-2 c = λ label. over (now (c .before .before .before .before .args .s)) (c .before .before .before .before .args .at) (c .before .before .before .before .args .sum) (c .before .before .before .before .args .bound) (omega arith) label (c .before .ports-at .result) (c .before .ports-at .ensures .0) (omega arith) (omega arith)
 
 mul-if3 : tie.Need-mul-if3
 mul-if3 c = search needs
 
 returns-3 : tie.Need-returns-3
-returns-3 c = λ label. short (now (c .before .before .before .before .before .before .args .s)) (c .before .before .before .before .before .before .args .at) (c .before .before .before .before .before .before .args .sum) (c .before .before .before .before .before .before .args .bound) (omega arith) label (c .before .before .before .count-at .result) (c .before .before .count-at2 .result) (c .before .before .before .count-at .ensures .0) (c .before .before .count-at2 .ensures .0) (omega arith) (omega arith) (omega arith)
+returns-3 c = λ label. short (now (c .before .before .before .before .before .args .s)) (c .before .before .before .before .before .args .at) (c .before .before .before .before .before .args .sum) (c .before .before .before .before .before .args .bound) (omega arith) label (c .before .before .ports-at .result) (c .before .before .ports-at .ensures .0) (omega arith) (omega arith) (omega arith)
 
 add-reach-of : tie.Need-add-reach-of
 add-reach-of c = search needs
@@ -43,17 +34,17 @@ add-reach-of c = search needs
 reach-of-requires : tie.Need-reach-of-requires
 reach-of-requires c κs = search needs
 
+add-t13 : tie.Need-add-t13
+add-t13 c = search needs
+
+mul-t9 : tie.Need-mul-t9
+mul-t9 c = search needs
+
 add-t15 : tie.Need-add-t15
 add-t15 c = search needs
 
-mul-t11 : tie.Need-mul-t11
-mul-t11 c = search needs
-
-add-t17 : tie.Need-add-t17
-add-t17 c = search needs
-
 returns-4 : tie.Need-returns-4
-returns-4 c = λ label. whole (now (c .before .before .before .before .before .before .before .args .s)) (c .before .before .before .before .before .before .before .args .at) (c .before .before .before .before .before .before .before .args .sum) (c .before .before .before .before .before .before .before .args .bound) (omega arith) label (c .before .before .before .before .count-at .result) (c .before .before .before .count-at2 .result) (c .before .before .before .before .count-at .ensures .0) (c .before .before .before .count-at2 .ensures .0) (omega arith) (omega arith) (omega arith) (c .reach-of .result) (c .reach-of .ensures)
+returns-4 c = λ label. whole (now (c .before .before .before .before .before .before .args .s)) (c .before .before .before .before .before .before .args .at) (c .before .before .before .before .before .before .args .sum) (c .before .before .before .before .before .before .args .bound) (omega arith) label (c .before .before .before .ports-at .result) (c .before .before .before .ports-at .ensures .0) (omega arith) (omega arith) (omega arith) (c .reach-of .result) (c .reach-of .ensures)
 
 pub read-edge-spec : {M : Type 1} → statement M
 read-edge-spec =
@@ -61,17 +52,14 @@ read-edge-spec =
     (tie.spec
     sub-left
     returns
-    count-at-requires
-    add-count-at
-    count-at-requires-2
-    add-n
+    ports-at-requires
     add-ports
     returns-2
     mul-if3
     returns-3
     add-reach-of
     reach-of-requires
+    add-t13
+    mul-t9
     add-t15
-    mul-t11
-    add-t17
     returns-4)

@@ -30,6 +30,9 @@ returns c body edges e p q =
 reach-of-requires : tie.Need-reach-of-requires
 reach-of-requires c κs = search needs
 
+cast-if2 : tie.Need-cast-if2
+cast-if2 c = omega arith
+
 returns-2 : tie.Need-returns-2
 returns-2 c body edges e p q =
     let a = c .before .before .before .before .before .before .before .before .args in
@@ -51,5 +54,6 @@ read-lists-spec =
     mul-if1
     returns
     reach-of-requires
+    cast-if2
     returns-2
     returns-3)

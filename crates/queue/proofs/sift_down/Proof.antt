@@ -1,0 +1,102 @@
+-- `queue::sift_down` meets its contract.
+-- Assumes nothing.
+use mathlib.Core.Path.{_≡_, refl, ap, _∙_}
+use Prim.Native.Nat.{_-_}
+use native.Mathlib.Omega.{arith}
+use lib.ListN.{length}
+use borrow.Author.Tests.{not-true, not-false}
+use Rattle.le.specs.Le.{words}
+use Rattle.queue.specs.Queue.{candidateAt}
+use Rattle.queue.specs.Sift.{Sinking, placed}
+use Rattle.le.proofs.Places.{length-words}
+use Rattle.queue.proofs.Down.{down-start, down-turn}
+use Rattle.queue.proofs.Entries.{put-placed}
+use Rattle.queue.proofs.Order.{before-trans, told-ahead, told-not}
+use Rattle.queue.proofs.sift_down.Statement.{statement}
+use Rattle.queue.proofs.sift_down.Tie as tie
+
+abbrev Inv-loop : tie.InvT-loop
+Inv-loop room₀ base n c gap₀ room gap = Sinking (words room₀) (words room) base n c gap × (length room ≡ length room₀)
+
+abbrev μ-loop : tie.MeasureT-loop
+μ-loop room₀ base n c gap₀ room gap = n - gap
+
+loop-holds : tie.Need-loop-holds Inv-loop μ-loop
+loop-holds c = (down-start (c .before .pre .0 .0) (c .before .pre .1), refl)
+
+mul-loop : tie.Need-mul-loop Inv-loop μ-loop
+mul-loop c = omega arith
+
+add-loop : tie.Need-add-loop Inv-loop μ-loop
+add-loop c = omega arith
+
+first-below-requires : tie.Need-first-below-requires Inv-loop μ-loop
+first-below-requires c κs = omega arith
+
+candidate-at-requires : tie.Need-candidate-at-requires Inv-loop μ-loop
+candidate-at-requires c κs = omega arith
+
+precedes-requires : tie.Need-precedes-requires Inv-loop μ-loop
+precedes-requires c κs = omega arith
+
+same-length : tie.Need-same-length Inv-loop μ-loop
+same-length c = c .before .before .before .before .before .before .before .loop .inv .1
+
+returns : tie.Need-returns Inv-loop μ-loop
+returns c = let k = c .before .before in
+    let f = k .before .before in
+    record {
+      sinking = f .before .before .before .loop .inv .0;
+      below = λ j p l e. before-trans
+          (told-not (c .before .precedes .ensures) (k .candidate-at .ensures) refl (not-true _ (c .if1 .taken)))
+          (f .first-below .ensures .first j p l e);
+    }
+
+put-candidate-requires : tie.Need-put-candidate-requires Inv-loop μ-loop
+put-candidate-requires c κs = omega arith
+
+loop-less : tie.Need-loop-less Inv-loop μ-loop
+loop-less c = omega arith
+
+loop-again : tie.Need-loop-again Inv-loop μ-loop
+loop-again c = let w = c .before .before in
+    let e = w .before .before in
+    let k = e .before .before in
+    let f = k .before .before in
+    let h = f .before .before .before in
+    let l = h .loop in
+    let a = h .before .before .args in
+    let p = candidateAt (words (l .room)) (a .base) (f .first-below .result) in (
+      down-turn
+          (l .inv .0)
+          (f .first-below .ensures)
+          (told-ahead (e .before .precedes .ensures) (k .candidate-at .ensures) refl (not-false _ (e .if1 .left)))
+          (put-placed (a .base) (l .gap) p (omega (arith, length-words (l .room))) (w .put-candidate .ensures ∙ ap (placed (words (l .room)) (a .base) (l .gap)) (k .candidate-at .ensures))),
+      w .put-candidate .kept .0 ∙ l .inv .1,
+    )
+
+same-length-2 : tie.Need-same-length-2 Inv-loop μ-loop
+same-length-2 c = c .before .loop .inv .1
+
+returns-2 : tie.Need-returns-2 Inv-loop μ-loop
+returns-2 c = record { sinking = c .before .loop .inv .0; below = λ j p l e. absurd (omega arith) }
+
+pub sift-down-spec : {M : Type 1} → statement M
+sift-down-spec =
+    tie.close
+    (tie.spec
+    Inv-loop
+    μ-loop
+    loop-holds
+    mul-loop
+    add-loop
+    first-below-requires
+    candidate-at-requires
+    precedes-requires
+    same-length
+    returns
+    put-candidate-requires
+    loop-less
+    loop-again
+    same-length-2
+    returns-2)
