@@ -1,20 +1,23 @@
 -- The numbers of every answer fit their bits, and packing what the code answered is packing the definition's answer.
 -- Assumes nothing.
+use mathlib.Core.Bool.{Bool, true, false}
 use mathlib.Core.List.{List}
 use mathlib.Core.Path.{_≡_, refl, sym, subst}
 use Prim.Native.Nat.{ℕ, _≤_, _<_}
 use native.Mathlib.Omega.{arith}
+use lib.Dec.{leb}
 use lib.ListN.{length}
 use Rattle.form.specs.Form.{written, stored}
-use Rattle.graph.specs.Answer.{Answer, refused, answered}
-use Rattle.graph.specs.Calls.{Next, Made, readCall, onGraph}
-use Rattle.graph.specs.Graph.{Graph, form1, WellFormed}
+use Rattle.graph.specs.Answer.{Answer, refused, answered, _else_, _>>_}
+use Rattle.graph.specs.Calls.{Next, Made, readCall, onGraph, onNothing, inWorkRoom}
+use Rattle.graph.specs.Graph.{Graph, form1, Proper}
 use Rattle.le.specs.Le.{Below}
 use Rattle.ohg.specs.Packed.{packedAs, packedWritten, Packs}
-use Rattle.graph.proofs.Answers.{Keeps, on-graph-answer, sizes-length}
+use Rattle.graph.proofs.Answers.{Keeps, on-graph-answer, on-nothing-answer, sizes-length}
 use Rattle.graph.proofs.Laws.{form1-usable, largest}
 use Rattle.graph.proofs.ReadWrite.{read-sound}
-use Rattle.graph.proofs.Refusals.{Listed, on-graph-listed, read-listed}
+use Rattle.graph.proofs.Refusals.{Listed, on-graph-listed, on-nothing-listed, read-listed}
+use Rattle.ohg.proofs.Ids.{Small, SmallStart}
 
 pub same-made : (a : Answer Made) → packedWritten (written a) ≡ packedAs (λ m. length (m .form)) (λ m. m .id) a
 same-made (refused n) = refl
@@ -35,7 +38,7 @@ stored-packs (answered b) l k = (k b refl, omega arith)
 
 -- a call on a stored graph, whose step keeps graphs proper and gives an id of a node or an edge
 pub on-graph-packs : (b : List ℕ) (room : ℕ) (step : Graph → Answer Next) → Below 256 b → Keeps step → ((g : Graph) → Listed (step g))
-    → ((g : Graph) (x : Next) → WellFormed form1 g → step g ≡ answered x → x .id ≤ 2048) → Packs (written (onGraph form1 b room step))
+    → Small step → Packs (written (onGraph form1 b room step))
 on-graph-packs b room step t keeps listed small =
     made-packs (onGraph form1 b room step) (on-graph-listed form1 b room step listed)
     (λ m e.
@@ -49,3 +52,24 @@ on-graph-packs b room step t keeps listed small =
 
 pub read-packs : (b : List ℕ) (room : ℕ) → Packs (stored (readCall form1 b room))
 read-packs b room = stored-packs (readCall form1 b room) (read-listed form1 b room) (λ l e. omega (arith, sizes-length form1 b room l e))
+
+-- a call without a graph
+pub on-nothing-packs : (room : ℕ) (start : Answer Next) → ((x : Next) → start ≡ answered x → Proper (x .graph)) → Listed start → SmallStart start
+    → Packs (written (onNothing form1 room start))
+on-nothing-packs room start keeps listed small =
+    made-packs (onNothing form1 room start) (on-nothing-listed form1 room start listed)
+    (λ m e.
+    let h = on-nothing-answer form1 form1-usable room start m keeps e in
+    let x = h .0 in
+    let short : length (m .form) ≤ 49167 = subst (λ (l : List ℕ). length l ≤ 49167) (sym (h .2 .written)) (largest (x .graph) (h .2 .formed)) in
+    let id = small x (h .1) in
+    (omega arith, omega (arith, h .3)))
+
+-- a call that is lent work room
+pub room-packs : (needed lent : ℕ) (a : Answer Made) → Packs (written a) → Packs (written (inWorkRoom needed lent a))
+unfolding inWorkRoom _else_ _>>_
+room-packs needed lent a h = go (leb needed lent)
+  where
+    go : (c : Bool) → Packs (written ((c else 10) >> a))
+    go true = h
+    go false = omega arith

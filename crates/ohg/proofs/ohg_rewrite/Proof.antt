@@ -1,26 +1,20 @@
 -- `ohg::ohg_rewrite` meets its contract.
 -- Assumes nothing.
-use mathlib.Core.Path.{_≡_, sym, ap, _∙_, subst}
-use Prim.Native.Nat.{ℕ, _≤_}
+use mathlib.Core.Path.{sym, ap, _∙_, subst}
 use native.Mathlib.Omega.{arith}
 use lib.ListN.{length}
 use denote.Ref.{now}
 use borrow.Author.Needs.{needs}
-use Rattle.graph.specs.Answer.{answered}
-use Rattle.graph.specs.Calls.{Next, onGraph, rewriteStep}
-use Rattle.graph.specs.Graph.{Graph, form1}
+use Rattle.graph.specs.Calls.{onGraph, rewriteStep}
+use Rattle.graph.specs.Graph.{form1}
 use Rattle.ohg.specs.Packed.{packedWritten, Packs}
 use Rattle.graph.proofs.Answers.{rewrite-kept}
 use Rattle.graph.proofs.Refusals.{rewrite-listed}
-use Rattle.graph.proofs.Steps.{same-answer}
 use Rattle.le.proofs.Numbers.{below-each}
+use Rattle.ohg.proofs.Ids.{rewrite-id}
 use Rattle.ohg.proofs.Packs.{on-graph-packs, same-made}
 use Rattle.ohg.proofs.ohg_rewrite.Statement.{statement}
 use Rattle.ohg.proofs.ohg_rewrite.Tie as tie
-
-rewrite-id : (g : Graph) (x : Next) → rewriteStep g ≡ answered x → x .id ≤ 2048
-unfolding rewriteStep
-rewrite-id g x e = let i : _≡_ {A = ℕ} 0 (x .id) = ap (λ (y : Next). y .id) (same-answer e) in omega arith
 
 rewrite-requires : tie.Need-rewrite-requires
 rewrite-requires c κs = search needs
@@ -30,7 +24,7 @@ pack-requires c κs =
     let a = c .before .before .before .before .before .before .args in
     let t = below-each 256 (now (a .src)) (λ i l. omega (arith, c .before .before .before .before .before .shared-slice-known .given i)) in
     subst Packs (sym (c .before .before .rewrite .ensures .0))
-    (on-graph-packs (now (a .src)) (length (now (a .out))) rewriteStep t rewrite-kept rewrite-listed (λ g x h e. rewrite-id g x e))
+    (on-graph-packs (now (a .src)) (length (now (a .out))) rewriteStep t rewrite-kept rewrite-listed rewrite-id)
 
 same-length : tie.Need-same-length
 same-length c = search needs
