@@ -7,7 +7,7 @@ use Prim.Native.Nat.{ℕ, _+_, _-_, _*_, _/_, _<_, _≤_}
 use lib.ListN.{length, getD}
 use Rattle.queue.specs.declared.Candidate.{Candidate}
 
--- entry i of the queue: score, id, arcs in, arcs out
+-- entry i of the queue, four words: score, id, arcs in, arcs out (document 01: the `Candidate` tuple is a struct, over lent room)
 unfoldable pub candidateAt : List ℕ → ℕ → ℕ → Candidate
 candidateAt W base i = record {
   score = getD W (base + 4 * i) 0;
@@ -16,7 +16,7 @@ candidateAt W base i = record {
   outdegree = getD W (base + 4 * i + 3) 0;
 }
 
--- a comes out no later than b: the largest score, the lowest id on a tie
+-- a comes out no later than b (document 01: the largest arcs in times arcs out, lowest id on a tie)
 pub data Before (a b : Candidate) : Type 0 where
   higher : b .score < a .score → Before a b
   tied : a .score ≡ b .score → a .id ≤ b .id → Before a b
