@@ -45,13 +45,42 @@ enum ohg_refusal {
 /* The bytes that ohg_read answers. */
 #define OHG_SIZES_BYTES 24
 
-/* Reads a stored graph and answers its sizes: six 4-byte little-endian numbers, nodes, edges, ports, global sources, global targets, pairs.
+/* Reads a stored graph and answers its sizes: six 4-byte little-endian numbers, nodes, edges, ports, global sources, global
+ * targets, pairs.
  * a: 24, the bytes written. b: 0. Refusals: 1 to 6, 10. */
 uint64_t ohg_read(const uint8_t *src, size_t src_len, uint8_t *sizes, size_t sizes_len);
 
 /* Reads a stored graph and writes it. One graph has one form, so the answer is the bytes that were read.
- * a: the bytes written. b: 0. Refusals: 1 to 6, 10. */
+ * a: bytes written. b: 0. Refusals: 1 to 6, 10. */
 uint64_t ohg_rewrite(const uint8_t *src, size_t src_len, uint8_t *out, size_t out_len);
+
+/* The graph with nothing in it.
+ * a: bytes written. b: 0. Refusals: 10. */
+uint64_t ohg_empty(uint8_t *out, size_t out_len);
+
+/* Nodes of these labels (4 bytes each) and nothing else.
+ * a: bytes written. b: 0. Refusals: 7, 9, 10. */
+uint64_t ohg_discrete(const uint8_t *labels, size_t labels_len, uint8_t *out, size_t out_len);
+
+/* One more node.
+ * a: bytes written. b: the new node's id. Refusals: 1 to 6, 9, 10. */
+uint64_t ohg_new_node(const uint8_t *src, size_t src_len, uint32_t label, uint8_t *out, size_t out_len);
+
+/* One more edge between nodes that are there (ids of 2 bytes each). Label 4,294,967,295 makes a spider.
+ * a: bytes written. b: the new edge's id. Refusals: 1 to 7, 9, 10. */
+uint64_t ohg_new_edge(const uint8_t *src, size_t src_len, uint32_t label, const uint8_t *sources, size_t sources_len,
+                      const uint8_t *targets, size_t targets_len, uint8_t *out, size_t out_len);
+
+/* One more edge with new nodes: first one for each source label, then one for each target label, then the edge between them. The
+ * new nodes' ids follow from the old node count.
+ * a: bytes written. b: the new edge's id. Refusals: 1 to 7, 9, 10. */
+uint64_t ohg_new_operation(const uint8_t *src, size_t src_len, uint32_t label, const uint8_t *source_labels,
+                           size_t source_labels_len, const uint8_t *target_labels, size_t target_labels_len, uint8_t *out,
+                           size_t out_len);
+
+/* One more pending pair of nodes. No labels are compared.
+ * a: bytes written. b: 0. Refusals: 1 to 7, 9, 10. */
+uint64_t ohg_unify(const uint8_t *src, size_t src_len, uint32_t v, uint32_t w, uint8_t *out, size_t out_len);
 
 #ifdef __cplusplus
 }

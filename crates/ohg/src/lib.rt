@@ -3,7 +3,7 @@ ghost use mathlib.Core.Path.{_≡_};
 ghost use lib.ListN.{length};
 ghost use Rattle.graph.specs.Graph.{form1};
 ghost use Rattle.graph.specs.Answer.{laid};
-ghost use Rattle.graph.specs.Calls.{readCall, onGraph, rewriteStep};
+ghost use Rattle.graph.specs.Calls.{readCall, onGraph, onNothing, rewriteStep, emptyStep, discreteStep, newNodeStep, newEdgeStep, newOperationStep, unifyStep};
 ghost use Rattle.ohg.specs.Packed.{packedAs, packedWritten, Packs};
 use form::Written;
 
@@ -35,5 +35,77 @@ pub extern "C" fn ohg_rewrite(src: &[u8], out: &mut [u8]) -> u64
     ensures { λ r. ⌜ now (out .exit) ≡ laid (λ m. m .form) (onGraph form1 (now (src .entry)) (length (now (out .entry))) rewriteStep) (now (out .entry)) ⌝ }
 {
     let w = form::rewrite(src, out);
+    pack(w)
+}
+
+// The graph with nothing in it.
+#[no_mangle]
+pub extern "C" fn ohg_empty(out: &mut [u8]) -> u64
+    ensures { λ r. ⌜ r ≡ packedAs (λ m. length (m .form)) (λ m. m .id) (onNothing form1 (length (now (out .entry))) emptyStep) ⌝ }
+    ensures { λ r. ⌜ now (out .exit) ≡ laid (λ m. m .form) (onNothing form1 (length (now (out .entry))) emptyStep) (now (out .entry)) ⌝ }
+{
+    let w = hypergraph::empty(out);
+    pack(w)
+}
+
+// Nodes of these labels and nothing else.
+#[no_mangle]
+pub extern "C" fn ohg_discrete(labels: &[u8], out: &mut [u8]) -> u64
+    ensures { λ r. ⌜ r ≡ packedAs (λ m. length (m .form)) (λ m. m .id) (onNothing form1 (length (now (out .entry))) (discreteStep (now (labels .entry)))) ⌝ }
+    ensures { λ r. ⌜ now (out .exit) ≡ laid (λ m. m .form) (onNothing form1 (length (now (out .entry))) (discreteStep (now (labels .entry)))) (now (out .entry)) ⌝ }
+{
+    let w = hypergraph::discrete(labels, out);
+    pack(w)
+}
+
+// One more node.
+#[no_mangle]
+pub extern "C" fn ohg_new_node(src: &[u8], label: u32, out: &mut [u8]) -> u64
+    ensures { λ r. ⌜ r ≡ packedAs (λ m. length (m .form)) (λ m. m .id) (onGraph form1 (now (src .entry)) (length (now (out .entry))) (newNodeStep label)) ⌝ }
+    ensures { λ r. ⌜ now (out .exit) ≡ laid (λ m. m .form) (onGraph form1 (now (src .entry)) (length (now (out .entry))) (newNodeStep label)) (now (out .entry)) ⌝ }
+{
+    let w = hypergraph::new_node(src, label, out);
+    pack(w)
+}
+
+// One more edge between nodes that are there.
+#[no_mangle]
+pub extern "C" fn ohg_new_edge(
+    src: &[u8],
+    label: u32,
+    sources: &[u8],
+    targets: &[u8],
+    out: &mut [u8],
+) -> u64
+    ensures { λ r. ⌜ r ≡ packedAs (λ m. length (m .form)) (λ m. m .id) (onGraph form1 (now (src .entry)) (length (now (out .entry))) (newEdgeStep form1 label (now (sources .entry)) (now (targets .entry)))) ⌝ }
+    ensures { λ r. ⌜ now (out .exit) ≡ laid (λ m. m .form) (onGraph form1 (now (src .entry)) (length (now (out .entry))) (newEdgeStep form1 label (now (sources .entry)) (now (targets .entry)))) (now (out .entry)) ⌝ }
+{
+    let w = hypergraph::new_edge(src, label, sources, targets, out);
+    pack(w)
+}
+
+// One more edge, with a new node for each of its sources and targets.
+#[no_mangle]
+pub extern "C" fn ohg_new_operation(
+    src: &[u8],
+    label: u32,
+    sources: &[u8],
+    targets: &[u8],
+    out: &mut [u8],
+) -> u64
+    ensures { λ r. ⌜ r ≡ packedAs (λ m. length (m .form)) (λ m. m .id) (onGraph form1 (now (src .entry)) (length (now (out .entry))) (newOperationStep label (now (sources .entry)) (now (targets .entry)))) ⌝ }
+    ensures { λ r. ⌜ now (out .exit) ≡ laid (λ m. m .form) (onGraph form1 (now (src .entry)) (length (now (out .entry))) (newOperationStep label (now (sources .entry)) (now (targets .entry)))) (now (out .entry)) ⌝ }
+{
+    let w = hypergraph::new_operation(src, label, sources, targets, out);
+    pack(w)
+}
+
+// One more pending pair.
+#[no_mangle]
+pub extern "C" fn ohg_unify(src: &[u8], v: u32, w: u32, out: &mut [u8]) -> u64
+    ensures { λ r. ⌜ r ≡ packedAs (λ m. length (m .form)) (λ m. m .id) (onGraph form1 (now (src .entry)) (length (now (out .entry))) (unifyStep v w)) ⌝ }
+    ensures { λ r. ⌜ now (out .exit) ≡ laid (λ m. m .form) (onGraph form1 (now (src .entry)) (length (now (out .entry))) (unifyStep v w)) (now (out .entry)) ⌝ }
+{
+    let w = hypergraph::unify(src, v, w, out);
     pack(w)
 }
