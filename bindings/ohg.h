@@ -45,6 +45,9 @@ enum ohg_refusal {
 /* The bytes that ohg_read answers. */
 #define OHG_SIZES_BYTES 24
 
+/* The bytes of work room that each function asks for. What it holds after a call is not fixed. */
+#define OHG_ROOM_ONCE_FED 2048
+
 /* Reads a stored graph and answers its sizes: six 4-byte little-endian numbers, nodes, edges, ports, global sources, global
  * targets, pairs.
  * a: 24, the bytes written. b: 0. Refusals: 1 to 6, 10. */
@@ -81,6 +84,10 @@ uint64_t ohg_new_operation(const uint8_t *src, size_t src_len, uint32_t label, c
 /* One more pending pair of nodes. No labels are compared.
  * a: bytes written. b: 0. Refusals: 1 to 7, 9, 10. */
 uint64_t ohg_unify(const uint8_t *src, size_t src_len, uint32_t v, uint32_t w, uint8_t *out, size_t out_len);
+
+/* Whether each node occurs at most once among all edge targets and at most once among all edge sources.
+ * a: 1 yes, 0 no. b: 0. Refusals: 10 (room), 1 to 6, 8. */
+uint64_t ohg_once_fed(const uint8_t *src, size_t src_len, uint8_t *room, size_t room_len);
 
 #ifdef __cplusplus
 }

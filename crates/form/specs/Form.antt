@@ -3,7 +3,7 @@
 use Prim.Native.Nat.{ℕ, _+_, _*_, _-_, max}
 use mathlib.Core.List.{List, [], _∷_, _++_}
 use lib.ListN.{length}
-use mathlib.Core.Bool.{cond, _&&_}
+use mathlib.Core.Bool.{Bool, cond, _&&_}
 use lib.Dec.{leb}
 use Rattle.graph.specs.Graph.{Edge, Graph, Counts, ports, edgeEntries, form1, countsFit}
 use Rattle.graph.specs.Form.{formBytes}
@@ -18,6 +18,8 @@ use Rattle.form.specs.declared.Step.{Step}
 use Rattle.form.specs.declared.Step.the-variants as step
 use Rattle.form.specs.declared.Listed.{Listed}
 use Rattle.form.specs.declared.Listed.the-variants as list
+use Rattle.form.specs.declared.Checked.{Checked}
+use Rattle.form.specs.declared.Checked.the-variants as check
 use Rattle.form.specs.declared.Fit.{Fit}
 use Rattle.form.specs.declared.Fit.the-variants as fit
 use Rattle.form.specs.declared.Written.{Written}
@@ -93,6 +95,11 @@ fitted z room =
 abbrev pub written : Answer Made → Written
 written (refused n) = write.Refused (refusal n)
 written (answered m) = write.Done (length (m .form)) (m .id)
+
+-- a check: yes or no
+abbrev pub checked : Answer Bool → Checked
+checked (refused n) = check.Refused (refusal n)
+checked (answered b) = check.Answer b
 
 -- bytes written, without an id
 abbrev pub stored : Answer (List ℕ) → Written

@@ -391,6 +391,12 @@ pub enum Written {
     Refused(Refusal),
 }
 
+// What a check answers.
+pub enum Checked {
+    Answer(bool),
+    Refused(Refusal),
+}
+
 // The mark and the version.
 fn put_mark(out: &mut [u8])
     requires { ⌜ 5 ≤ length (now out) ⌝ }

@@ -2,7 +2,7 @@
 -- Assumes nothing.
 use mathlib.Core.List.{List, _++_}
 use mathlib.Core.Path.{_≡_, sym, ap, _∙_}
-use Prim.Native.Nat.{ℕ, _+_, _*_, _≤_}
+use Prim.Native.Nat.{ℕ, _+_, _*_, _-_, _≤_}
 use native.Mathlib.Omega.{arith}
 use lib.ListN.{length, take, drop, length-drop, length-append}
 use lib.Seq.{sets, length-take-le, take-all}
@@ -25,6 +25,19 @@ part-rest s from n h = take-all n (drop from s) (rw length-drop (omega arith))
 pub length-head : (c : Counts) (s : List ℕ) (n : ℕ) → 15 + n ≤ length s → length (header form1 c ++ take n (drop 15 s)) ≡ 15 + n
 length-head c s n h =
     omega (arith, length-append (header form1 c) (take n (drop 15 s)), length-header form1 c, length-part s 15 n h)
+
+-- the same with one label more, and what follows as far as a place
+pub length-node : (c : Counts) (s : List ℕ) (n label end : ℕ) → 15 + n ≤ end → end ≤ length s
+    → length ((header form1 c ++ take n (drop 15 s)) ++ (bytes 4 label ++ take (end - (15 + n)) (drop (15 + n) s))) ≡ end + 4
+length-node c s n label end h k =
+    let rest = take (end - (15 + n)) (drop (15 + n) s) in
+    omega (
+      arith,
+      length-append (header form1 c ++ take n (drop 15 s)) (bytes 4 label ++ rest),
+      length-append (bytes 4 label) rest,
+      length-head c s n (omega arith),
+      length-part s (15 + n) (end - (15 + n)) (omega arith),
+    )
 
 -- edge labels, one more, and edges
 pub length-more-edges : (s : List ℕ) (nodes edges ports label : ℕ) → listsAt nodes edges ports ≤ length s

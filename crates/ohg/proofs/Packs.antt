@@ -1,18 +1,18 @@
 -- The numbers of every answer fit their bits, and packing what the code answered is packing the definition's answer.
 -- Assumes nothing.
-use mathlib.Core.Bool.{Bool, true, false}
+use mathlib.Core.Bool.{Bool, true, false, cond}
 use mathlib.Core.List.{List}
 use mathlib.Core.Path.{_≡_, refl, sym, subst}
 use Prim.Native.Nat.{ℕ, _≤_, _<_}
 use native.Mathlib.Omega.{arith}
 use lib.Dec.{leb}
 use lib.ListN.{length}
-use Rattle.form.specs.Form.{written, stored}
+use Rattle.form.specs.Form.{written, stored, checked}
 use Rattle.graph.specs.Answer.{Answer, refused, answered, _else_, _>>_}
 use Rattle.graph.specs.Calls.{Next, Made, readCall, onGraph, onNothing, inWorkRoom}
 use Rattle.graph.specs.Graph.{Graph, form1, Proper}
 use Rattle.le.specs.Le.{Below}
-use Rattle.ohg.specs.Packed.{packedAs, packedWritten, Packs}
+use Rattle.ohg.specs.Packed.{packedAs, packedWritten, packedChecked, Packs}
 use Rattle.graph.proofs.Answers.{Keeps, on-graph-answer, on-nothing-answer, sizes-length}
 use Rattle.graph.proofs.Laws.{form1-usable, largest}
 use Rattle.graph.proofs.ReadWrite.{read-sound}
@@ -73,3 +73,9 @@ room-packs needed lent a h = go (leb needed lent)
     go : (c : Bool) → Packs (written ((c else 10) >> a))
     go true = h
     go false = omega arith
+
+-- ---- checks
+
+pub same-checked : (a : Answer Bool) → packedChecked (checked a) ≡ packedAs (λ b. cond b 1 0) (λ b. 0) a
+same-checked (refused n) = refl
+same-checked (answered b) = refl

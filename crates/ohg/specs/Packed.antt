@@ -2,6 +2,9 @@
 -- Assumes nothing.
 use Prim.Native.Nat.{ℕ, _+_, _*_, _<_, _^_}
 use Rattle.graph.specs.Answer.{Answer, refused, answered}
+use mathlib.Core.Bool.{cond}
+use Rattle.form.specs.declared.Checked.{Checked}
+use Rattle.form.specs.declared.Checked.the-variants as check
 use Rattle.form.specs.declared.Written.{Written}
 use Rattle.form.specs.declared.Written.the-variants.{Done, Refused}
 
@@ -22,3 +25,8 @@ packedWritten (Refused x) = packed (x .no) 0 0
 abbrev pub Packs : Written → Type 0
 Packs (Done bytes id) = (bytes < 16777216) × (id < 4294967296)
 Packs (Refused x) = x .no < 256
+
+-- the same of a check: 1 for yes
+abbrev pub packedChecked : Checked → ℕ
+packedChecked (check.Answer b) = packed 0 (cond b 1 0) 0
+packedChecked (check.Refused x) = packed (x .no) 0 0

@@ -1,10 +1,12 @@
 // The functions that the tool calls from C, and how their answers are packed into one number.
 ghost use mathlib.Core.Path.{_≡_};
+ghost use mathlib.Core.Bool.{cond};
 ghost use lib.ListN.{length};
 ghost use Rattle.graph.specs.Graph.{form1};
 ghost use Rattle.graph.specs.Answer.{laid};
-ghost use Rattle.graph.specs.Calls.{readCall, onGraph, onNothing, rewriteStep, emptyStep, discreteStep, newNodeStep, newEdgeStep, newOperationStep, unifyStep};
-ghost use Rattle.ohg.specs.Packed.{packedAs, packedWritten, Packs};
+ghost use Rattle.graph.specs.Calls.{readCall, onGraph, onNothing, rewriteStep, emptyStep, discreteStep, newNodeStep, newEdgeStep, newOperationStep, unifyStep, inWorkRoom, onceFedCall};
+ghost use Rattle.ohg.specs.Packed.{packedAs, packedWritten, packedChecked, Packs};
+use form::Checked;
 use form::Written;
 
 // What writing answered, as one number: code, bytes written and id in 8, 24 and 32 bits.
@@ -108,4 +110,23 @@ pub extern "C" fn ohg_unify(src: &[u8], v: u32, w: u32, out: &mut [u8]) -> u64
 {
     let w = hypergraph::unify(src, v, w, out);
     pack(w)
+}
+
+// What a check answered, as one number: code, and 1 for yes.
+fn pack_check(c: Checked) -> u64
+    ensures { λ r. ⌜ r ≡ packedChecked c ⌝ }
+{
+    match c {
+        Checked::Answer(b) => if b { 256 } else { 0 },
+        Checked::Refused(x) => x.no as u64,
+    }
+}
+
+// Whether each node occurs at most once among all edge targets and at most once among all edge sources.
+#[no_mangle]
+pub extern "C" fn ohg_once_fed(src: &[u8], room: &mut [u8]) -> u64
+    ensures { λ r. ⌜ r ≡ packedAs (λ b. cond b 1 0) (λ b. 0) (inWorkRoom 2048 (length (now (room .entry))) (onceFedCall form1 (now (src .entry)))) ⌝ }
+{
+    let c = checks::once_fed(src, room);
+    pack_check(c)
 }

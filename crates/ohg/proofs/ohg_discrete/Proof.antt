@@ -1,18 +1,18 @@
 -- `ohg::ohg_discrete` meets its contract.
 -- Assumes nothing.
-use mathlib.Core.Path.{_≡_, sym, ap, _∙_, subst}
+use mathlib.Core.Path.{sym, ap, _∙_, subst}
 use native.Mathlib.Omega.{arith}
 use lib.ListN.{length}
 use denote.Ref.{now}
 use borrow.Author.Needs.{needs}
-use Rattle.le.proofs.Numbers.{below-each}
+use Rattle.graph.specs.Calls.{onNothing, discreteStep}
 use Rattle.graph.specs.Graph.{form1}
-use Rattle.graph.specs.Calls.{onGraph, onNothing, discreteStep}
+use Rattle.ohg.specs.Packed.{packedWritten, Packs}
 use Rattle.graph.proofs.Answers.{discrete-kept}
 use Rattle.graph.proofs.Refusals.{discrete-listed}
-use Rattle.ohg.specs.Packed.{packedWritten, Packs}
+use Rattle.le.proofs.Numbers.{below-each}
 use Rattle.ohg.proofs.Ids.{discrete-id}
-use Rattle.ohg.proofs.Packs.{on-graph-packs, on-nothing-packs, same-made}
+use Rattle.ohg.proofs.Packs.{on-nothing-packs, same-made}
 use Rattle.ohg.proofs.ohg_discrete.Statement.{statement}
 use Rattle.ohg.proofs.ohg_discrete.Tie as tie
 

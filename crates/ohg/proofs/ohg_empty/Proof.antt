@@ -1,18 +1,16 @@
 -- `ohg::ohg_empty` meets its contract.
 -- Assumes nothing.
-use mathlib.Core.Path.{_≡_, sym, ap, _∙_, subst}
-use native.Mathlib.Omega.{arith}
+use mathlib.Core.Path.{sym, ap, _∙_, subst}
 use lib.ListN.{length}
 use denote.Ref.{now}
 use borrow.Author.Needs.{needs}
-use Rattle.le.proofs.Numbers.{below-each}
+use Rattle.graph.specs.Calls.{onNothing, emptyStep}
 use Rattle.graph.specs.Graph.{form1}
-use Rattle.graph.specs.Calls.{onGraph, onNothing, emptyStep}
+use Rattle.ohg.specs.Packed.{packedWritten, Packs}
 use Rattle.graph.proofs.Answers.{empty-kept}
 use Rattle.graph.proofs.Refusals.{empty-listed}
-use Rattle.ohg.specs.Packed.{packedWritten, Packs}
 use Rattle.ohg.proofs.Ids.{empty-id}
-use Rattle.ohg.proofs.Packs.{on-graph-packs, on-nothing-packs, same-made}
+use Rattle.ohg.proofs.Packs.{on-nothing-packs, same-made}
 use Rattle.ohg.proofs.ohg_empty.Statement.{statement}
 use Rattle.ohg.proofs.ohg_empty.Tie as tie
 

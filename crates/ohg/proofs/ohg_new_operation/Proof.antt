@@ -1,18 +1,18 @@
 -- `ohg::ohg_new_operation` meets its contract.
 -- Assumes nothing.
-use mathlib.Core.Path.{_≡_, sym, ap, _∙_, subst}
+use mathlib.Core.Path.{sym, ap, _∙_, subst}
 use native.Mathlib.Omega.{arith}
 use lib.ListN.{length}
 use denote.Ref.{now}
 use borrow.Author.Needs.{needs}
-use Rattle.le.proofs.Numbers.{below-each}
+use Rattle.graph.specs.Calls.{onGraph, newOperationStep}
 use Rattle.graph.specs.Graph.{form1}
-use Rattle.graph.specs.Calls.{onGraph, onNothing, newOperationStep}
+use Rattle.ohg.specs.Packed.{packedWritten, Packs}
 use Rattle.graph.proofs.Answers.{new-operation-kept}
 use Rattle.graph.proofs.Refusals.{new-operation-listed}
-use Rattle.ohg.specs.Packed.{packedWritten, Packs}
+use Rattle.le.proofs.Numbers.{below-each}
 use Rattle.ohg.proofs.Ids.{new-operation-id}
-use Rattle.ohg.proofs.Packs.{on-graph-packs, on-nothing-packs, same-made}
+use Rattle.ohg.proofs.Packs.{on-graph-packs, same-made}
 use Rattle.ohg.proofs.ohg_new_operation.Statement.{statement}
 use Rattle.ohg.proofs.ohg_new_operation.Tie as tie
 

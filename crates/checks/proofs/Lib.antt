@@ -1,0 +1,4 @@
+pub mod Walk
+pub mod Fed
+pub mod Edges
+pub mod Calls
