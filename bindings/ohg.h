@@ -65,6 +65,16 @@ uint64_t ohg_empty(uint8_t *out, size_t out_len);
  * a: bytes written. b: 0. Refusals: 7, 9, 10. */
 uint64_t ohg_discrete(const uint8_t *labels, size_t labels_len, uint8_t *out, size_t out_len);
 
+/* Nodes of these labels, each a global source and a global target, in order.
+ * a: bytes written. b: 0. Refusals: 7, 9, 10. */
+uint64_t ohg_identity(const uint8_t *labels, size_t labels_len, uint8_t *out, size_t out_len);
+
+/* One edge alone, with a node for each of its source and target labels; its sources are the global sources, its targets the global
+ * targets.
+ * a: bytes written. b: 0. Refusals: 7, 9, 10. */
+uint64_t ohg_singleton(uint32_t label, const uint8_t *source_labels, size_t source_labels_len, const uint8_t *target_labels,
+                       size_t target_labels_len, uint8_t *out, size_t out_len);
+
 /* One more node.
  * a: bytes written. b: the new node's id. Refusals: 1 to 6, 9, 10. */
 uint64_t ohg_new_node(const uint8_t *src, size_t src_len, uint32_t label, uint8_t *out, size_t out_len);
@@ -84,6 +94,14 @@ uint64_t ohg_new_operation(const uint8_t *src, size_t src_len, uint32_t label, c
 /* One more pending pair of nodes. No labels are compared.
  * a: bytes written. b: 0. Refusals: 1 to 7, 9, 10. */
 uint64_t ohg_unify(const uint8_t *src, size_t src_len, uint32_t v, uint32_t w, uint8_t *out, size_t out_len);
+
+/* One more node, at the end of an edge's sources.
+ * a: bytes written. b: the new node's id. Refusals: 1 to 7, 9, 10. */
+uint64_t ohg_add_edge_source(const uint8_t *src, size_t src_len, uint32_t edge, uint32_t label, uint8_t *out, size_t out_len);
+
+/* One more node, at the end of an edge's targets.
+ * a: bytes written. b: the new node's id. Refusals: 1 to 7, 9, 10. */
+uint64_t ohg_add_edge_target(const uint8_t *src, size_t src_len, uint32_t edge, uint32_t label, uint8_t *out, size_t out_len);
 
 /* Whether each node occurs at most once among all edge targets and at most once among all edge sources.
  * a: 1 yes, 0 no. b: 0. Refusals: 10 (room), 1 to 6, 8. */

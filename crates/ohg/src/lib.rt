@@ -4,7 +4,7 @@ ghost use mathlib.Core.Bool.{cond};
 ghost use lib.ListN.{length};
 ghost use Rattle.graph.specs.Graph.{form1};
 ghost use Rattle.graph.specs.Answer.{laid};
-ghost use Rattle.graph.specs.Calls.{readCall, onGraph, onNothing, rewriteStep, emptyStep, discreteStep, newNodeStep, newEdgeStep, newOperationStep, unifyStep, inWorkRoom, onceFedCall};
+ghost use Rattle.graph.specs.Calls.{readCall, onGraph, onNothing, rewriteStep, emptyStep, discreteStep, identityStep, singletonStep, newNodeStep, newEdgeStep, newOperationStep, unifyStep, addEdgeSourceStep, addEdgeTargetStep, inWorkRoom, onceFedCall};
 ghost use Rattle.ohg.specs.Packed.{packedAs, packedWritten, packedChecked, Packs};
 use form::Checked;
 use form::Written;
@@ -129,4 +129,44 @@ pub extern "C" fn ohg_once_fed(src: &[u8], room: &mut [u8]) -> u64
 {
     let c = checks::once_fed(src, room);
     pack_check(c)
+}
+
+// Nodes of these labels, each a global source and a global target.
+#[no_mangle]
+pub extern "C" fn ohg_identity(labels: &[u8], out: &mut [u8]) -> u64
+    ensures { λ r. ⌜ r ≡ packedAs (λ m. length (m .form)) (λ m. m .id) (onNothing form1 (length (now (out .entry))) (identityStep (now (labels .entry)))) ⌝ }
+    ensures { λ r. ⌜ now (out .exit) ≡ laid (λ m. m .form) (onNothing form1 (length (now (out .entry))) (identityStep (now (labels .entry)))) (now (out .entry)) ⌝ }
+{
+    let w = open_hypergraph::identity(labels, out);
+    pack(w)
+}
+
+// One edge alone, its sources and targets the global ones.
+#[no_mangle]
+pub extern "C" fn ohg_singleton(label: u32, sources: &[u8], targets: &[u8], out: &mut [u8]) -> u64
+    ensures { λ r. ⌜ r ≡ packedAs (λ m. length (m .form)) (λ m. m .id) (onNothing form1 (length (now (out .entry))) (singletonStep label (now (sources .entry)) (now (targets .entry)))) ⌝ }
+    ensures { λ r. ⌜ now (out .exit) ≡ laid (λ m. m .form) (onNothing form1 (length (now (out .entry))) (singletonStep label (now (sources .entry)) (now (targets .entry)))) (now (out .entry)) ⌝ }
+{
+    let w = open_hypergraph::singleton(label, sources, targets, out);
+    pack(w)
+}
+
+// One more node, at the end of an edge's sources.
+#[no_mangle]
+pub extern "C" fn ohg_add_edge_source(src: &[u8], edge: u32, label: u32, out: &mut [u8]) -> u64
+    ensures { λ r. ⌜ r ≡ packedAs (λ m. length (m .form)) (λ m. m .id) (onGraph form1 (now (src .entry)) (length (now (out .entry))) (addEdgeSourceStep edge label)) ⌝ }
+    ensures { λ r. ⌜ now (out .exit) ≡ laid (λ m. m .form) (onGraph form1 (now (src .entry)) (length (now (out .entry))) (addEdgeSourceStep edge label)) (now (out .entry)) ⌝ }
+{
+    let w = ports::add_edge_source(src, edge, label, out);
+    pack(w)
+}
+
+// One more node, at the end of an edge's targets.
+#[no_mangle]
+pub extern "C" fn ohg_add_edge_target(src: &[u8], edge: u32, label: u32, out: &mut [u8]) -> u64
+    ensures { λ r. ⌜ r ≡ packedAs (λ m. length (m .form)) (λ m. m .id) (onGraph form1 (now (src .entry)) (length (now (out .entry))) (addEdgeTargetStep edge label)) ⌝ }
+    ensures { λ r. ⌜ now (out .exit) ≡ laid (λ m. m .form) (onGraph form1 (now (src .entry)) (length (now (out .entry))) (addEdgeTargetStep edge label)) (now (out .entry)) ⌝ }
+{
+    let w = ports::add_edge_target(src, edge, label, out);
+    pack(w)
 }
