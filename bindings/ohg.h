@@ -46,6 +46,10 @@ enum ohg_refusal {
 #define OHG_SIZES_BYTES 24
 
 /* The bytes of work room that each function asks for. What it holds after a call is not fixed. */
+#define OHG_ROOM_DELETE_EDGES 2048
+#define OHG_ROOM_DELETE_NODES 2048
+#define OHG_ROOM_CYCLE_BREAKING_NODES 466944
+#define OHG_ROOM_NO_LOOP 303104
 #define OHG_ROOM_ONCE_FED 2048
 
 /* Reads a stored graph and answers its sizes: six 4-byte little-endian numbers, nodes, edges, ports, global sources, global
@@ -102,6 +106,27 @@ uint64_t ohg_add_edge_source(const uint8_t *src, size_t src_len, uint32_t edge, 
 /* One more node, at the end of an edge's targets.
  * a: bytes written. b: the new node's id. Refusals: 1 to 7, 9, 10. */
 uint64_t ohg_add_edge_target(const uint8_t *src, size_t src_len, uint32_t edge, uint32_t label, uint8_t *out, size_t out_len);
+
+/* The graph without these edges; the rest keep their order. Repeated ids count once.
+ * a: bytes written. b: 0. Refusals: 10 (room), 1 to 7, 10. */
+uint64_t ohg_delete_edges(const uint8_t *src, size_t src_len, const uint8_t *ids, size_t ids_len, uint8_t *out, size_t out_len,
+                          uint8_t *room, size_t room_len);
+
+/* The graph without these nodes: every entry of them is dropped from edge and global lists, a pair is dropped if either end goes,
+ * the rest are numbered anew in order.
+ * `map` gets 2 bytes for each old node: its new id, or 65,535 where it went. If either buffer is too short neither is written.
+ * a: bytes written to `out`. b: map entries written. Refusals: 10 (room), 1 to 7, 10. */
+uint64_t ohg_delete_nodes(const uint8_t *src, size_t src_len, const uint8_t *ids, size_t ids_len, uint8_t *out, size_t out_len,
+                          uint8_t *map, size_t map_len, uint8_t *room, size_t room_len);
+
+/* Chooses nodes that every directed cycle passes through; `list` gets their ids, 2 bytes each, ascending. It is empty exactly when
+ * there is no directed cycle.
+ * a: ids in the list. b: vertices removed freely. Refusals: 10 (room), 1 to 6, 8, 10. */
+uint64_t ohg_cycle_breaking_nodes(const uint8_t *src, size_t src_len, uint8_t *list, size_t list_len, uint8_t *room, size_t room_len);
+
+/* Whether there is no directed cycle.
+ * a: 1 yes, 0 no. b: 0. Refusals: 10 (room), 1 to 6, 8. */
+uint64_t ohg_no_loop(const uint8_t *src, size_t src_len, uint8_t *room, size_t room_len);
 
 /* Whether each node occurs at most once among all edge targets and at most once among all edge sources.
  * a: 1 yes, 0 no. b: 0. Refusals: 10 (room), 1 to 6, 8. */

@@ -4,3 +4,4 @@ pub mod Listed
 pub mod Ends
 pub mod Forms
 pub mod Calls
+pub mod Corollaries

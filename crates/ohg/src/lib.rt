@@ -1,11 +1,15 @@
 // The functions that the tool calls from C, and how their answers are packed into one number.
 ghost use mathlib.Core.Path.{_≡_};
 ghost use mathlib.Core.Bool.{cond};
+ghost use Prim.Native.Nat.{_/_};
 ghost use lib.ListN.{length};
 ghost use Rattle.graph.specs.Graph.{form1};
 ghost use Rattle.graph.specs.Answer.{laid};
-ghost use Rattle.graph.specs.Calls.{readCall, onGraph, onNothing, rewriteStep, emptyStep, discreteStep, identityStep, singletonStep, newNodeStep, newEdgeStep, newOperationStep, unifyStep, addEdgeSourceStep, addEdgeTargetStep, inWorkRoom, onceFedCall};
-ghost use Rattle.ohg.specs.Packed.{packedAs, packedWritten, packedChecked, Packs};
+ghost use Rattle.graph.specs.Calls.{readCall, onGraph, onNothing, rewriteStep, emptyStep, discreteStep, identityStep, singletonStep, newNodeStep, newEdgeStep, newOperationStep, unifyStep, addEdgeSourceStep, addEdgeTargetStep, inWorkRoom, deleteEdgesStep, deleteNodesCall, onceFedCall};
+ghost use Rattle.choice.specs.Calls.{cycleBreakingNodesCall, noLoopCall};
+ghost use Rattle.ohg.specs.Packed.{packedAs, packedWritten, packedChecked, packedDeleting, packedCutting, Packs, DeletingPacks, CuttingPacks};
+use cycle::Cutting;
+use delete::Deleting;
 use form::Checked;
 use form::Written;
 
@@ -169,4 +173,72 @@ pub extern "C" fn ohg_add_edge_target(src: &[u8], edge: u32, label: u32, out: &m
 {
     let w = ports::add_edge_target(src, edge, label, out);
     pack(w)
+}
+
+// The graph without these edges.
+#[no_mangle]
+pub extern "C" fn ohg_delete_edges(src: &[u8], ids: &[u8], out: &mut [u8], room: &mut [u8]) -> u64
+    ensures { λ r. ⌜ r ≡ packedAs (λ m. length (m .form)) (λ m. m .id) (inWorkRoom 2048 (length (now (room .entry))) (onGraph form1 (now (src .entry)) (length (now (out .entry))) (deleteEdgesStep form1 (now (ids .entry))))) ⌝ }
+    ensures { λ r. ⌜ now (out .exit) ≡ laid (λ m. m .form) (inWorkRoom 2048 (length (now (room .entry))) (onGraph form1 (now (src .entry)) (length (now (out .entry))) (deleteEdgesStep form1 (now (ids .entry))))) (now (out .entry)) ⌝ }
+{
+    let w = delete::delete_edges(src, ids, out, room);
+    pack(w)
+}
+
+// What deleting nodes answered, as one number: code, bytes written and map entries.
+fn pack_deleting(d: Deleting) -> u64
+    requires { ⌜ DeletingPacks d ⌝ }
+    ensures { λ r. ⌜ r ≡ packedDeleting d ⌝ }
+{
+    match d {
+        Deleting::Done { bytes, entries } => 256 * (bytes as u64) + 4294967296 * (entries as u64),
+        Deleting::Refused(x) => x.no as u64,
+    }
+}
+
+// The graph without these nodes, and where each old node went.
+#[no_mangle]
+pub extern "C" fn ohg_delete_nodes(
+    src: &[u8],
+    ids: &[u8],
+    out: &mut [u8],
+    map: &mut [u8],
+    room: &mut [u8],
+) -> u64
+    ensures { λ r. ⌜ r ≡ packedAs (λ d. length (d .form)) (λ d. length (d .map) / 2) (inWorkRoom 2048 (length (now (room .entry))) (deleteNodesCall form1 (now (src .entry)) (now (ids .entry)) (length (now (out .entry))) (length (now (map .entry))))) ⌝ }
+    ensures { λ r. ⌜ now (out .exit) ≡ laid (λ d. d .form) (inWorkRoom 2048 (length (now (room .entry))) (deleteNodesCall form1 (now (src .entry)) (now (ids .entry)) (length (now (out .entry))) (length (now (map .entry))))) (now (out .entry)) ⌝ }
+    ensures { λ r. ⌜ now (map .exit) ≡ laid (λ d. d .map) (inWorkRoom 2048 (length (now (room .entry))) (deleteNodesCall form1 (now (src .entry)) (now (ids .entry)) (length (now (out .entry))) (length (now (map .entry))))) (now (map .entry)) ⌝ }
+{
+    let d = delete::delete_nodes(src, ids, out, map, room);
+    pack_deleting(d)
+}
+
+// What the choice answered, as one number: code, ids in the list and vertices removed freely.
+fn pack_cutting(c: Cutting) -> u64
+    requires { ⌜ CuttingPacks c ⌝ }
+    ensures { λ r. ⌜ r ≡ packedCutting c ⌝ }
+{
+    match c {
+        Cutting::Done { ids, free } => 256 * (ids as u64) + 4294967296 * (free as u64),
+        Cutting::Refused(x) => x.no as u64,
+    }
+}
+
+// Nodes that every directed cycle passes through.
+#[no_mangle]
+pub extern "C" fn ohg_cycle_breaking_nodes(src: &[u8], list: &mut [u8], room: &mut [u8]) -> u64
+    ensures { λ r. ⌜ r ≡ packedAs (λ c. c .count) (λ c. c .free) (inWorkRoom 466944 (length (now (room .entry))) (cycleBreakingNodesCall form1 (now (src .entry)) (length (now (list .entry))))) ⌝ }
+    ensures { λ r. ⌜ now (list .exit) ≡ laid (λ c. c .list) (inWorkRoom 466944 (length (now (room .entry))) (cycleBreakingNodesCall form1 (now (src .entry)) (length (now (list .entry))))) (now (list .entry)) ⌝ }
+{
+    let c = cycle::cycle_breaking_nodes(src, list, room);
+    pack_cutting(c)
+}
+
+// Whether there is no directed cycle.
+#[no_mangle]
+pub extern "C" fn ohg_no_loop(src: &[u8], room: &mut [u8]) -> u64
+    ensures { λ r. ⌜ r ≡ packedAs (λ b. cond b 1 0) (λ b. 0) (inWorkRoom 303104 (length (now (room .entry))) (noLoopCall form1 (now (src .entry)))) ⌝ }
+{
+    let c = cycle::no_loop(src, room);
+    pack_check(c)
 }

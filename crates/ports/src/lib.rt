@@ -90,6 +90,7 @@ pub fn add_edge_source(src: &[u8], edge: u32, label: u32, out: &mut [u8]) -> Wri
     let at = edge_at(src, z, edge as usize);
     let sources = le::get2(src, at) as usize;
     let targets = le::get2(src, at + form::WIDTH) as usize;
+    let before = sources;
     hypergraph::put_node(out, src, z.nodes, y, label, at);
     put_port(
         out,
@@ -98,7 +99,7 @@ pub fn add_edge_source(src: &[u8], edge: u32, label: u32, out: &mut [u8]) -> Wri
         at + 4,
         sources + 1,
         targets,
-        sources,
+        before,
         z.nodes,
     );
     Written::Done { bytes, id: z.nodes }
@@ -131,6 +132,7 @@ pub fn add_edge_target(src: &[u8], edge: u32, label: u32, out: &mut [u8]) -> Wri
     let at = edge_at(src, z, edge as usize);
     let sources = le::get2(src, at) as usize;
     let targets = le::get2(src, at + form::WIDTH) as usize;
+    let before = sources + targets;
     hypergraph::put_node(out, src, z.nodes, y, label, at);
     put_port(
         out,
@@ -139,7 +141,7 @@ pub fn add_edge_target(src: &[u8], edge: u32, label: u32, out: &mut [u8]) -> Wri
         at + 4,
         sources,
         targets + 1,
-        sources + targets,
+        before,
         z.nodes,
     );
     Written::Done { bytes, id: z.nodes }

@@ -51,12 +51,12 @@ returns c =
 returns-2 : tie.Need-returns-2
 returns-2 c =
     let a = c .before .before .before .before .before .before .before .before .args in
-    gives-refused _ (now (a .out)) 7 (unify-first-7 (now (a .src)) (length (now (a .out))) (c .before .before .before .graph .given .0 .0) (form (c .before .before)) (a .v) (a .w) (c .if1 .taken))
+    gives-refused _ (now (a .out)) 7 (unify-first-7 (now (a .src)) (length (now (a .out))) (c .before .before .before .graph .given .0 .0) (form (c .before .before)) (a .v) (a .w) (omega (arith, c .if1 .taken)))
 
 returns-3 : tie.Need-returns-3
 returns-3 c =
     let a = c .before .before .before .before .before .before .before .before .before .before .args in
-    gives-refused _ (now (a .out)) 7 (unify-second-7 (now (a .src)) (length (now (a .out))) (c .before .before .before .before .before .graph .given .0 .0) (form (c .before .before .before .before)) (a .v) (a .w) (c .before .before .if1 .left) (c .if2 .taken))
+    gives-refused _ (now (a .out)) 7 (unify-second-7 (now (a .src)) (length (now (a .out))) (c .before .before .before .before .before .graph .given .0 .0) (form (c .before .before .before .before)) (a .v) (a .w) (c .before .before .if1 .left) (omega (arith, c .if2 .taken)))
 
 add-result-size : tie.Need-add-result-size
 add-result-size c =

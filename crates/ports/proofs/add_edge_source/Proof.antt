@@ -64,7 +64,7 @@ returns c =
 returns-2 : tie.Need-returns-2
 returns-2 c =
     let a = c .before .before .before .before .before .before .before .before .args in
-    gives-refused _ (now (a .out)) 7 (add-source-7 (now (a .src)) (length (now (a .out))) (c .before .before .before .graph .given .0 .0) (form (c .before .before)) (a .edge) (a .label) (c .if1 .taken))
+    gives-refused _ (now (a .out)) 7 (add-source-7 (now (a .src)) (length (now (a .out))) (c .before .before .before .graph .given .0 .0) (form (c .before .before)) (a .edge) (a .label) (omega (arith, c .if1 .taken)))
 
 add-result-size : tie.Need-add-result-size
 add-result-size c =

@@ -64,7 +64,7 @@ returns c =
 returns-2 : tie.Need-returns-2
 returns-2 c =
     let a = c .before .before .before .before .before .before .before .before .args in
-    gives-refused _ (now (a .out)) 7 (add-target-7 (now (a .src)) (length (now (a .out))) (c .before .before .before .graph .given .0 .0) (form (c .before .before)) (a .edge) (a .label) (c .if1 .taken))
+    gives-refused _ (now (a .out)) 7 (add-target-7 (now (a .src)) (length (now (a .out))) (c .before .before .before .graph .given .0 .0) (form (c .before .before)) (a .edge) (a .label) (omega (arith, c .if1 .taken)))
 
 add-result-size : tie.Need-add-result-size
 add-result-size c =
@@ -117,6 +117,9 @@ get2-requires-2 c κs = let t = here (c .before) in omega (arith, t .inside)
 cast-targets : tie.Need-cast-targets
 cast-targets c = search needs
 
+add-before : tie.Need-add-before
+add-before c = search needs
+
 put-node-requires : tie.Need-put-node-requires
 put-node-requires c κs =
     let a = c .before .before .before .before .before .before .before .before .before .before .before .before .before .before .before .before .before .before .args in
@@ -151,9 +154,6 @@ add-put-port-2 c =
 
 add-put-port-3 : tie.Need-add-put-port-3
 add-put-port-3 c = search needs
-
-add-put-port-4 : tie.Need-add-put-port-4
-add-put-port-4 c = search needs
 
 put-port-requires : tie.Need-put-port-requires
 put-port-requires c κs =
@@ -218,11 +218,11 @@ add-edge-target-spec =
     add-get2
     get2-requires-2
     cast-targets
+    add-before
     put-node-requires
     add-put-port
     add-put-port-2
     add-put-port-3
-    add-put-port-4
     put-port-requires
     same-length
     returns-4)

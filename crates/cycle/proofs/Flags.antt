@@ -1,0 +1,110 @@
+-- The flagged nodes as an ascending list, and its bytes.
+-- Assumes nothing.
+use mathlib.Core.Bool.{Bool, cond}
+use mathlib.Core.List.{List, [], _∷_, _++_, append-nil, List·Memᴰ·head, List·Memᴰ·tail, List·Memᴰ·not-nil, List·Memᴰ·append-cases, List·Memᴰ·eq-of-singleton, Memᴰ·append-left, Memᴰ·append-right}
+use mathlib.Core.Logic.{⊎-elim}
+use mathlib.Core.Path.{_≡_, refl, sym, ap, _∙_, subst}
+use Prim.Native.Nat.{ℕ, zero, suc, _+_, _-_, _*_, _≤_, _<_}
+use native.Mathlib.Decide.{ℕ-discrete, decLt}
+use native.Mathlib.Nat.{not-suc-le-zero}
+use native.Mathlib.Numerals.{add-one}
+use native.Mathlib.Omega.{arith}
+use lib.ListN.{length, getD, length-append}
+use lib.Seq.{sets}
+use borrow.Author.Tests.{eq-eqb, ne-eqb}
+use Rattle.choice.specs.Arcs.{In}
+use Rattle.choice.specs.Choice.{Above, Ascends}
+use Rattle.choice.specs.Drawing.{chosen}
+use Rattle.cycle.specs.Choosing.{ChosenIn, shown, flaggedBelow}
+use Rattle.incidence.specs.Listed.{Drawn, graphOf}
+use Rattle.le.specs.Le.{row, bytes}
+use Rattle.removal.specs.Engine.{picks}
+use Rattle.choice.proofs.Ascending.{ascends-ext}
+use Rattle.choice.proofs.Graphs.{chosen-ascends, chosen-are-nodes}
+use Rattle.le.proofs.Numbers.{row-append, length-row}
+use Rattle.le.proofs.Stores.{sets-append}
+
+pub shown-no : (W : List ℕ) (v : ℕ) → getD W (picks + v) 0 ≡ 0 → shown W v ≡ []
+shown-no W v e = ap (λ (b : Bool). cond b [] (v ∷ [])) (eq-eqb (getD W (picks + v) 0) 0 e)
+
+pub shown-yes : (W : List ℕ) (v : ℕ) → (getD W (picks + v) 0 ≡ 0 → ⊥) → shown W v ≡ v ∷ []
+shown-yes W v f = ap (λ (b : Bool). cond b [] (v ∷ [])) (ne-eqb (getD W (picks + v) 0) 0 f)
+
+-- x is shown: it is v, and flagged
+shown-in : (W : List ℕ) (v x : ℕ) → In x (shown W v) → (x ≡ v) × (getD W (picks + x) 0 ≡ 0 → ⊥)
+shown-in W v x k = go (ℕ-discrete (getD W (picks + v) 0) 0)
+  where
+    go : Dec (getD W (picks + v) 0 ≡ 0) → (x ≡ v) × (getD W (picks + x) 0 ≡ 0 → ⊥)
+    go (yes e) = absurd (List·Memᴰ·not-nil (subst (λ (l : List ℕ). In x l) (shown-no W v e) k))
+    go (no f) = let e = List·Memᴰ·eq-of-singleton (subst (λ (l : List ℕ). In x l) (shown-yes W v f) k) in (e, λ z. f (ap (λ (u : ℕ). getD W (picks + u) 0) (sym e) ∙ z))
+
+pub flagged-in : (W : List ℕ) (k x : ℕ) → In x (flaggedBelow W k) → (x < k) × (getD W (picks + x) 0 ≡ 0 → ⊥)
+flagged-in W zero x i = absurd (List·Memᴰ·not-nil i)
+flagged-in W (suc k) x i =
+    ⊎-elim (λ h. let r = flagged-in W k x h in (omega (arith, r .0), r .1)) (λ h. let r = shown-in W k x h in (omega (arith, r .0), r .1)) (List·Memᴰ·append-cases (flaggedBelow W k) i)
+
+pub in-flagged : (W : List ℕ) (k x : ℕ) → x < k → (getD W (picks + x) 0 ≡ 0 → ⊥) → In x (flaggedBelow W k)
+in-flagged W zero x l f = absurd (not-suc-le-zero l)
+in-flagged W (suc k) x l f = go (λ h. in-flagged W k x h f) (ℕ-discrete x k)
+  where
+    before : (x ≡ k → ⊥) → x < k
+    before d = at (decLt x k)
+      where
+        at : Dec (x < k) → x < k
+        at (yes h) = h
+        at (no h) = absurd (d (omega arith))
+
+    go : (x < k → In x (flaggedBelow W k)) → Dec (x ≡ k) → In x (flaggedBelow W k ++ shown W k)
+    go r (yes e) =
+        let g : getD W (picks + k) 0 ≡ 0 → ⊥ = λ z. f (ap (λ (u : ℕ). getD W (picks + u) 0) e ∙ z) in
+        Memᴰ·append-right (flaggedBelow W k) (subst (λ (l : List ℕ). In x l) (sym (shown-yes W k g)) (List·Memᴰ·head e))
+    go r (no d) = Memᴰ·append-left (shown W k) (r (before d))
+
+-- ---- ascending
+
+above-snoc : (y : ℕ) (xs : List ℕ) (k : ℕ) → Above y xs → y < k → ((x : ℕ) → In x xs → x < k) → Above y (xs ++ (k ∷ []))
+above-snoc y [] k a l h = (l, tt)
+above-snoc y (x ∷ xs) k a l h = (a .0, above-snoc x xs k (a .1) (h x (List·Memᴰ·head refl)) (λ z i. h z (List·Memᴰ·tail i)))
+
+ascends-snoc : (xs : List ℕ) (k : ℕ) → Ascends xs → ((x : ℕ) → In x xs → x < k) → Ascends (xs ++ (k ∷ []))
+ascends-snoc [] k a h = tt
+ascends-snoc (x ∷ xs) k a h = above-snoc x xs k a (h x (List·Memᴰ·head refl)) (λ z i. h z (List·Memᴰ·tail i))
+
+flagged-ascends : (W : List ℕ) (k : ℕ) → Ascends (flaggedBelow W k)
+flagged-ascends W zero = tt
+flagged-ascends W (suc k) = go (flagged-ascends W k) (ℕ-discrete (getD W (picks + k) 0) 0)
+  where
+    go : Ascends (flaggedBelow W k) → Dec (getD W (picks + k) 0 ≡ 0) → Ascends (flaggedBelow W k ++ shown W k)
+    go r (yes e) = subst Ascends (sym (ap (λ (l : List ℕ). flaggedBelow W k ++ l) (shown-no W k e) ∙ append-nil (flaggedBelow W k))) r
+    go r (no f) = subst (λ (l : List ℕ). Ascends (flaggedBelow W k ++ l)) (sym (shown-yes W k f)) (ascends-snoc (flaggedBelow W k) k r (λ x i. flagged-in W k x i .0))
+
+-- the flagged nodes are the chosen ids
+pub flagged-chosen : (b : List ℕ) (nodes edges : ℕ) → Drawn b nodes edges → (X : List ℕ) (ids free : ℕ) → ChosenIn b X nodes ids free → flaggedBelow X nodes ≡ chosen (graphOf b) .ids
+flagged-chosen b nodes edges d X ids free c =
+    ascends-ext (flaggedBelow X nodes) (chosen (graphOf b) .ids) (flagged-ascends X nodes) (chosen-ascends (graphOf b) (d .formed .proper))
+    (λ x i. let r = flagged-in X nodes x i in c .flags x (r .0) .1 (r .1))
+    (λ x i. let l : x < nodes = omega (arith, chosen-are-nodes (graphOf b) (d .formed .proper) x i, d .is-nodes) in in-flagged X nodes x l (c .flags x l .0 i))
+
+-- ---- the bytes
+
+pub flagged-next : (W : List ℕ) (v : ℕ) → flaggedBelow W (v + 1) ≡ flaggedBelow W v ++ shown W v
+flagged-next W v = ap (flaggedBelow W) (add-one v)
+
+pub flagged-fewer : (W : List ℕ) (v d : ℕ) → length (flaggedBelow W v) ≤ length (flaggedBelow W (d + v))
+flagged-fewer W v zero = let e : 0 + v ≡ v = omega arith in subst (λ (k : ℕ). length (flaggedBelow W v) ≤ length (flaggedBelow W k)) (sym e) (omega arith)
+flagged-fewer W v (suc d) =
+    let e : suc d + v ≡ suc (d + v) = omega arith in
+    subst (λ (k : ℕ). length (flaggedBelow W v) ≤ length (flaggedBelow W k)) (sym e) (omega (arith, flagged-fewer W v d, length-append (flaggedBelow W (d + v)) (shown W (d + v))))
+
+-- the next id has its place
+pub flagged-fits : (W : List ℕ) (v nodes : ℕ) → v < nodes → length (flaggedBelow W v) + length (shown W v) ≤ length (flaggedBelow W nodes)
+flagged-fits W v nodes l =
+    let e : nodes - (v + 1) + (v + 1) ≡ nodes = omega arith in
+    omega (arith, flagged-fewer W (v + 1) (nodes - (v + 1)), ap (λ (k : ℕ). length (flaggedBelow W k)) e, ap length (flagged-next W v), length-append (flaggedBelow W v) (shown W v))
+
+pub flagged-turn : (W list₀ list next : List ℕ) (v at : ℕ) → at ≡ length (flaggedBelow W v) * 2 → list ≡ sets list₀ 0 (row 2 (flaggedBelow W v)) → next ≡ sets list at (row 2 (shown W v))
+    → next ≡ sets list₀ 0 (row 2 (flaggedBelow W (v + 1)))
+flagged-turn W list₀ list next v at e l n =
+    let place : at ≡ 0 + length (row 2 (flaggedBelow W v)) = omega (arith, length-row 2 (flaggedBelow W v)) in
+    n ∙ (λ i. sets (l i) (place i) (row 2 (shown W v))) ∙ sym (sets-append list₀ 0 (row 2 (flaggedBelow W v)) (row 2 (shown W v)))
+    ∙ ap (sets list₀ 0) (sym (row-append 2 (flaggedBelow W v) (shown W v)) ∙ ap (row 2) (sym (flagged-next W v)))

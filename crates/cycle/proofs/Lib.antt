@@ -1,0 +1,5 @@
+pub mod Begin
+pub mod Finding
+pub mod Stages
+pub mod Flags
+pub mod Calls

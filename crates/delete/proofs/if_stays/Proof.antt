@@ -1,0 +1,25 @@
+-- `delete::if_stays` meets its contract.
+-- Assumes nothing.
+use mathlib.Core.Bool.{Bool, cond}
+use mathlib.Core.Path.{sym, ap}
+use denote.Ref.{now}
+use borrow.Author.Needs.{needs}
+use Rattle.delete.proofs.Marks.{unmarked, is-marked}
+use Rattle.delete.proofs.if_stays.Statement.{statement}
+use Rattle.delete.proofs.if_stays.Tie as tie
+
+shared-slice-read-if1 : tie.Need-shared-slice-read-if1
+shared-slice-read-if1 c = search needs
+
+returns : tie.Need-returns
+returns c =
+    let a = c .before .before .args in
+    sym (ap (λ (t : Bool). cond t 0 (a .x)) (unmarked (now (a .room)) (a .id) (c .if1 .taken)))
+
+returns-2 : tie.Need-returns-2
+returns-2 c =
+    let a = c .before .before .args in
+    sym (ap (λ (t : Bool). cond t 0 (a .x)) (is-marked (now (a .room)) (a .id) (c .if1 .left)))
+
+pub if-stays-spec : {M : Type 1} → statement M
+if-stays-spec = tie.close (tie.spec shared-slice-read-if1 returns returns-2)

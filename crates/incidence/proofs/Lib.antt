@@ -1,0 +1,5 @@
+pub mod Parts
+pub mod Ends
+pub mod Building
+pub mod Listing
+pub mod Whole

@@ -1,0 +1,91 @@
+-- `incidence::fill` meets its contract.
+-- Assumes nothing.
+use mathlib.Core.Path.{_≡_, refl, sym, _∙_, subst}
+use Prim.Native.Nat.{ℕ, _≤_, _<_, _+_, _-_}
+use native.Mathlib.Nat.{le-antisymm}
+use native.Mathlib.Omega.{arith}
+use lib.ListN.{length, getD}
+use Rattle.le.specs.Le.{words}
+use Rattle.le.proofs.Places.{length-words}
+use Rattle.incidence.proofs.Building.{Filling, filling-start, filling-read, filling-room, filling-turn, filling-done}
+use Rattle.incidence.proofs.fill.Statement.{statement}
+use Rattle.incidence.proofs.fill.Tie as tie
+
+abbrev Inv-loop : tie.InvT-loop
+Inv-loop room₀ near far lists n m k₀ room k = (k ≤ m) × Filling (words room₀) (words room) near far lists n m k × (length room ≡ length room₀)
+
+abbrev μ-loop : tie.MeasureT-loop
+μ-loop room₀ near far lists n m k₀ room k = m - k
+
+loop-holds : tie.Need-loop-holds Inv-loop μ-loop
+loop-holds c = (omega arith, filling-start _ _ _ _ _ _ (c .before .pre .1), refl)
+
+add-word : tie.Need-add-word Inv-loop μ-loop
+add-word c = omega arith
+
+word-requires : tie.Need-word-requires Inv-loop μ-loop
+word-requires c κs = omega arith
+
+cast-v : tie.Need-cast-v Inv-loop μ-loop
+cast-v c = omega arith
+
+add-word-2 : tie.Need-add-word-2 Inv-loop μ-loop
+add-word-2 c = omega arith
+
+word-requires-2 : tie.Need-word-requires-2 Inv-loop μ-loop
+word-requires-2 c κs = omega arith
+
+put-entry-requires : tie.Need-put-entry-requires Inv-loop μ-loop
+put-entry-requires c κs = let a = c .before .before .before .before .before .before .before .before .args in
+    let l = c .before .before .before .before .before .before .loop in
+    let W = words (a .room .now) in
+    let X = words (l .room) in
+    let long : a .lists + 16384 ≤ length W = omega (arith, length-words (a .room .now)) in
+    let is = c .before .before .before .word .ensures ∙ filling-read W X (a .near) (a .far) (a .lists) (a .n) (a .m) (l .k) (l .inv .1) (c .before .before .before .before .before .before .before .before .pre .1) (omega arith) (omega arith) (omega arith) (omega arith) long (omega arith) in (
+      (omega (arith, is, c .before .before .before .before .before .before .before .before .pre .1 .low (l .k) (omega arith)), omega arith),
+      subst (λ (u : ℕ). getD X (a .lists + u) 0 + getD X (a .lists + 4096 + u) 0 < 8192) (sym is)
+          (filling-room W X (a .near) (a .far) (a .lists) (a .n) (a .m) (l .k) (l .inv .1) (c .before .before .before .before .before .before .before .before .pre .1) (omega arith) (omega arith) (omega arith) (omega arith) long (omega arith)),
+    )
+
+add-k : tie.Need-add-k Inv-loop μ-loop
+add-k c = omega arith
+
+loop-less : tie.Need-loop-less Inv-loop μ-loop
+loop-less c = omega arith
+
+loop-again : tie.Need-loop-again Inv-loop μ-loop
+loop-again c = let a = c .before .before .before .before .before .before .before .before .before .before .before .args in
+    let l = c .before .before .before .before .before .before .before .before .before .loop in
+    let W = words (a .room .now) in (
+      omega arith,
+      filling-turn W (words (l .room)) (a .near) (a .far) (a .lists) (a .n) (a .m) (l .k) (l .inv .1) (c .before .before .before .before .before .before .before .before .before .before .before .pre .1) (omega arith) (omega arith) (omega arith) (omega arith) (omega (arith, length-words (a .room .now))) (omega arith)
+          (c .before .before .before .before .before .before .word .result) (c .before .before .before .before .word2 .result) (c .before .before .before .before .before .before .word .ensures) (c .before .before .before .before .word2 .ensures) (words (c .before .before .put-entry .last .0)) (c .before .before .put-entry .ensures),
+      c .before .before .put-entry .kept .0 ∙ l .inv .2,
+    )
+
+same-length : tie.Need-same-length Inv-loop μ-loop
+same-length c = c .before .loop .inv .2
+
+returns : tie.Need-returns Inv-loop μ-loop
+returns c = let a = c .before .before .before .args in
+    let l = c .before .loop in
+    filling-done (words (a .room .now)) (words (l .room)) (a .near) (a .far) (a .lists) (a .n) (a .m) (l .k) (l .inv .1) (le-antisymm (l .inv .0) (c .loop-test .left)) (c .before .before .before .pre .1) (omega arith) (omega arith) (omega (arith, length-words (a .room .now)))
+
+pub fill-spec : {M : Type 1} → statement M
+fill-spec =
+    tie.close
+    (tie.spec
+    Inv-loop
+    μ-loop
+    loop-holds
+    add-word
+    word-requires
+    cast-v
+    add-word-2
+    word-requires-2
+    put-entry-requires
+    add-k
+    loop-less
+    loop-again
+    same-length
+    returns)

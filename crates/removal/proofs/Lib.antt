@@ -1,0 +1,5 @@
+pub mod Frames
+pub mod Work
+pub mod Lowering
+pub mod Removing
+pub mod Peeling
