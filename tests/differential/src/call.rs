@@ -2,7 +2,7 @@
 
 use crate::form::Refusal;
 
-/// What a call is given to work on, in the order of the C parameters; the stored graph is the first input.
+/// What a call is given to work on, in the order of the C parameters; a stored graph is the first input.
 #[derive(Debug, Clone)]
 pub struct Arguments {
     pub numbers: Vec<u32>,
@@ -34,6 +34,13 @@ pub type Outcome = Result<Answer, Refusal>;
 pub type Due<'a> = Result<&'a Answer, Refusal>;
 
 impl Arguments {
+    pub fn new(numbers: &[u32], inputs: &[&[u8]]) -> Self {
+        Arguments {
+            numbers: numbers.to_vec(),
+            inputs: inputs.iter().map(|input| input.to_vec()).collect(),
+        }
+    }
+
     pub fn graph(&self) -> &[u8] {
         &self.inputs[0]
     }

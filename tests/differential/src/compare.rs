@@ -1,8 +1,8 @@
 //! Makes one call to the port and compares all that can be seen of it with what is due.
 
 use crate::call::{packed, written, Call, Due};
-use crate::operations::{Operation, Parameter};
-use crate::port::{Port, Word};
+use crate::operation::{Function, Parameter};
+use crate::port::{Port, Room, Word};
 use std::fmt;
 use std::ops::Range;
 
@@ -30,24 +30,35 @@ pub enum Place {
     Past(usize, usize),
     Input(usize),
     Guard,
+    RoomGuard,
 }
 
-/// Compares one call. The salt changes the bytes around and in the lent parts, and where these begin.
+/// What no call may depend on.
+#[derive(Debug, Clone, Copy)]
+pub struct Salt {
+    /// Changes where the lent parts begin, and the bytes around them, in answer buffers and in work room.
+    pub number: usize,
+    /// Whether all of the work room is filled with such bytes, or only a part.
+    pub whole_room: bool,
+}
+
+/// Compares one call.
 pub fn compare(
     port: &mut Port,
-    operation: &Operation,
+    function: &Function,
     call: &Call,
     due: Due,
-    salt: usize,
+    salt: Salt,
 ) -> Result<(), Disagreement> {
-    let lent = Lent::new(operation, call, salt);
+    let lent = Lent::new(function, call, salt);
     let mut after = lent.image.clone();
-    let returned = port.call(operation.name, &lent.words, &mut after);
-    let image_due = lent.image_due(due, &after);
+    let reply = port.call(function.operation.name, &lent.words, lent.room, &mut after);
+    let image_due = lent.image_due(due);
 
-    let place = match returned {
+    let place = match reply {
         None => Some(Place::Ended),
-        Some(returned) if returned != packed(due) => Some(Place::Returned),
+        Some(reply) if reply.returned != packed(due) => Some(Place::Returned),
+        Some(reply) if reply.beside_room => Some(Place::RoomGuard),
         Some(_) if after == image_due => None,
         Some(_) => lent.first_difference(due, &image_due, &after),
     };
@@ -57,7 +68,7 @@ pub fn compare(
     let images = [&lent.image, &image_due, &after];
     Err(Disagreement {
         place,
-        returned,
+        returned: reply.map(|reply| reply.returned),
         answers: lent
             .answers
             .iter()
@@ -66,30 +77,30 @@ pub fn compare(
     })
 }
 
-/// All that is lent for one call, as one run of bytes: each part between guards, and every byte that is no input's
-/// told by its place.
+/// All that is lent for one call but work room, as one run of bytes: each part between guards, and every byte that is no
+/// input's told by its place.
 struct Lent {
     image: Vec<u8>,
     words: Vec<Word>,
     inputs: Vec<Range<usize>>,
     answers: Vec<Range<usize>>,
-    room: Range<usize>,
+    room: Room,
 }
 
 impl Lent {
-    fn new(operation: &Operation, call: &Call, salt: usize) -> Self {
+    fn new(function: &Function, call: &Call, salt: Salt) -> Self {
         let mut lent = Lent {
             image: vec![],
             words: vec![],
             inputs: vec![],
             answers: vec![],
-            room: 0..0,
+            room: Room::default(),
         };
         let mut numbers = call.arguments.numbers.iter();
         let mut inputs = call.arguments.inputs.iter();
         let mut answers = call.answers.iter();
         // Parts begin at odd addresses too.
-        let guard = GUARD + salt % 8;
+        let guard = GUARD + salt.number % 8;
         let mut end = 0;
         let mut part = |words: &mut Vec<Word>, length: usize| {
             let start = end + guard;
@@ -97,7 +108,7 @@ impl Lent {
             words.extend([Word::Place(start), Word::Number(length as u64)]);
             start..end
         };
-        for parameter in operation.parameters {
+        for parameter in function.operation.parameters {
             let words = &mut lent.words;
             match parameter {
                 Parameter::Number => {
@@ -112,13 +123,18 @@ impl Lent {
                     let length = *answers.next().expect("a length for each such parameter");
                     lent.answers.push(part(words, length));
                 }
-                Parameter::Room(_) => {
+                Parameter::Room => {
                     let length = call.room.expect("a length for the work room");
-                    lent.room = part(words, length);
+                    words.extend([Word::Room(salt.number % 8), Word::Number(length as u64)]);
+                    lent.room = Room {
+                        length,
+                        fill: room_fill(salt.number),
+                        whole: salt.whole_room,
+                    };
                 }
             }
         }
-        let filling = |i: usize| (i * 151 + (i >> 8) * 29 + salt * 83) as u8;
+        let filling = |i: usize| (i * 151 + (i >> 8) * 29 + salt.number * 83) as u8;
         lent.image = (0..end + guard).map(filling).collect();
         for (range, input) in lent.inputs.iter().zip(&call.arguments.inputs) {
             lent.image[range.clone()].copy_from_slice(input);
@@ -126,14 +142,13 @@ impl Lent {
         lent
     }
 
-    /// The bytes as they must be after the call. What work room holds then is not fixed, so it is taken as it is.
-    fn image_due(&self, due: Due, after: &[u8]) -> Vec<u8> {
+    /// The bytes as they must be after the call.
+    fn image_due(&self, due: Due) -> Vec<u8> {
         let mut image = self.image.clone();
         for (buffer, range) in self.answers.iter().enumerate() {
             let answer = written(due, buffer);
             image[range.start..range.start + answer.len()].copy_from_slice(answer);
         }
-        image[self.room.clone()].copy_from_slice(&after[self.room.clone()]);
         image
     }
 
@@ -152,6 +167,16 @@ impl Lent {
     }
 }
 
+/// What work room is filled with before a call, by turns: some byte, two small 4-byte numbers, which a function might
+/// take for its own, and zeros.
+fn room_fill(salt: usize) -> u64 {
+    match salt % 4 {
+        0 | 1 => u64::from_le_bytes([(salt * 83 / 2) as u8; 8]),
+        2 => (salt % 7) as u64 | ((salt % 5) as u64) << 32,
+        _ => 0,
+    }
+}
+
 impl fmt::Display for Place {
     fn fmt(&self, f: &mut fmt::Formatter<'_>) -> fmt::Result {
         match self {
@@ -163,6 +188,7 @@ impl fmt::Display for Place {
             }
             Place::Input(input) => write!(f, "input {input}, which was written to"),
             Place::Guard => write!(f, "bytes beside what was lent, which were written to"),
+            Place::RoomGuard => write!(f, "bytes beside the work room, which were written to"),
         }
     }
 }

@@ -1,6 +1,6 @@
 //! A stored drawing as the original's graph, and back.
 
-use crate::form::{Drawing, Edge, SPIDER};
+use crate::form::{Drawing, Edge, Sizes, SPIDER};
 use oracle::lax::spider::WithSpider;
 use oracle::lax::{Hyperedge, NodeId, OpenHypergraph};
 
@@ -49,7 +49,24 @@ pub fn from_lax(graph: &Graph) -> Drawing {
     }
 }
 
-fn to_label(label: u32) -> WithSpider<u32> {
+/// How large the original's graph is, which may be larger than any drawing.
+pub fn sizes(graph: &Graph) -> Sizes {
+    let hypergraph = &graph.hypergraph;
+    Sizes {
+        nodes: hypergraph.nodes.len(),
+        edges: hypergraph.edges.len(),
+        ports: hypergraph
+            .adjacency
+            .iter()
+            .map(|adjacency| adjacency.sources.len() + adjacency.targets.len())
+            .sum(),
+        sources: graph.sources.len(),
+        targets: graph.targets.len(),
+        pairs: hypergraph.quotient.0.len(),
+    }
+}
+
+pub fn to_label(label: u32) -> WithSpider<u32> {
     match label {
         SPIDER => WithSpider::Spider,
         label => WithSpider::Operation(label),

@@ -31,6 +31,12 @@ pub enum Refusal {
     Length = 5,
     /// A stored node id not below the node count.
     Id = 6,
+    /// A list in the call has a broken entry at its end, or an id not below its count.
+    List = 7,
+    /// A pending pair, where the operation needs none.
+    Pair = 8,
+    /// The result would pass a limit.
+    Result = 9,
     /// An answer buffer is shorter than the answer, or the work room shorter than the call's.
     Room = 10,
 }
@@ -187,6 +193,16 @@ impl Sizes {
         2 * (self.sources + self.targets) + 4 * self.pairs
     }
 
+    /// Whether a drawing of these sizes is one that the form may store.
+    pub fn within_limits(&self) -> bool {
+        self.nodes <= MOST_NODES
+            && self.edges <= MOST_EDGES
+            && self.ports <= MOST_PORTS
+            && self.sources <= MOST_GLOBALS
+            && self.targets <= MOST_GLOBALS
+            && self.pairs <= MOST_PAIRS
+    }
+
     /// Six numbers of 4 bytes.
     pub fn bytes(&self) -> Vec<u8> {
         let sizes = [
@@ -223,12 +239,7 @@ fn header(bytes: &[u8]) -> Result<Sizes, Refusal> {
         targets: number16(bytes, 11).into(),
         pairs: number16(bytes, 13).into(),
     };
-    let within = counts.nodes <= MOST_NODES
-        && counts.edges <= MOST_EDGES
-        && counts.sources <= MOST_GLOBALS
-        && counts.targets <= MOST_GLOBALS
-        && counts.pairs <= MOST_PAIRS;
-    if within {
+    if counts.within_limits() {
         Ok(counts)
     } else {
         Err(Refusal::Limit)
@@ -255,18 +266,26 @@ fn take<'a>(rest: &mut &'a [u8], n: usize) -> Result<&'a [u8], Refusal> {
     Ok(taken)
 }
 
-pub(crate) fn number16(bytes: &[u8], at: usize) -> u16 {
+pub fn number16(bytes: &[u8], at: usize) -> u16 {
     u16::from_le_bytes([bytes[at], bytes[at + 1]])
 }
 
-fn numbers(bytes: &[u8]) -> impl Iterator<Item = u32> + '_ {
+/// Numbers of 4 bytes; a broken one at the end is left out.
+pub fn numbers(bytes: &[u8]) -> impl Iterator<Item = u32> + '_ {
     bytes
         .chunks_exact(4)
         .map(|b| u32::from_le_bytes([b[0], b[1], b[2], b[3]]))
 }
 
-fn ids(bytes: &[u8]) -> impl Iterator<Item = u16> + '_ {
+/// Ids of 2 bytes; a broken one at the end is left out.
+pub fn ids(bytes: &[u8]) -> impl Iterator<Item = u16> + '_ {
     bytes.chunks_exact(2).map(|id| number16(id, 0))
+}
+
+/// A list of ids as bytes.
+pub fn id_bytes(ids: impl IntoIterator<Item = usize>) -> Vec<u8> {
+    let ids = ids.into_iter();
+    ids.flat_map(|id| (id as u16).to_le_bytes()).collect()
 }
 
 /// One more than the highest id, or 0 where there is none.

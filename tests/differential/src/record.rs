@@ -2,11 +2,13 @@
 //!
 //! README.md describes its layout and its contents.
 
-use crate::call::{packed, written, Call, Due};
-use crate::cases;
+use crate::call::{packed, written, Arguments, Call, Due};
+use crate::cases::{self, damage, random};
 use crate::form;
-use crate::operations::OPERATIONS;
+use crate::operation::Function;
 use crate::rng::Rng;
+use crate::rooms::Rooms;
+use crate::rows::{functions, GROUPS};
 
 /// What every answer buffer is filled with before a call.
 const FILL: u8 = 0xA5;
@@ -14,144 +16,189 @@ const FILL: u8 = 0xA5;
 /// In place of the work room's length, where the function takes none.
 const NO_ROOM: u32 = u32::MAX;
 
-/// Random drawings for each operation.
+/// Random drawings for each function.
 const RANDOM: usize = 24;
+
+/// Of arguments picked by hand, those with up to so many bytes in and out are recorded in all calls, and those with up to
+/// so many more in the exact call, one for each number that a function returns as its code.
+const SMALL: usize = 300;
+const LARGE: usize = 17_000;
+
+pub struct List {
+    pub bytes: Vec<u8>,
+    /// Of each record, the function's number and the code that it returns.
+    pub records: Vec<(u8, u8)>,
+}
 
 /// Which of the calls that a run makes with some arguments are recorded.
 #[derive(Clone, Copy)]
 enum Which {
     All,
     OneByChance,
-    /// The one with room enough, and no more where there is an answer.
-    First,
+    Exact,
 }
 
 /// The whole list.
-pub fn list(rng: &mut Rng) -> Vec<u8> {
-    let mut list = b"OHGLIST1".to_vec();
+pub fn list(rooms: &Rooms, rng: &mut Rng) -> Result<List, String> {
+    let mut list = List {
+        bytes: b"OHGLIST1".to_vec(),
+        records: vec![],
+    };
     let by_hand: Vec<Vec<u8>> = cases::worked_by_hand().iter().map(form::write).collect();
-    let damaged = damaged(&by_hand[P8]);
-    for (number, operation) in OPERATIONS.iter().enumerate() {
-        for form in &by_hand {
-            put_calls(&mut list, number, form, Which::All, rng);
-        }
-        for form in each_refusal(&by_hand[P8]) {
-            put_calls(&mut list, number, &form, Which::First, rng);
-        }
-        for _ in 0..RANDOM {
-            let form = form::write(&cases::random_drawing_of(rng, 8));
-            put_calls(&mut list, number, &form, Which::OneByChance, rng);
-        }
-        // Dealt out, so that the list grows little as operations are added.
-        for form in damaged.iter().skip(number).step_by(OPERATIONS.len()) {
-            put_calls(&mut list, number, form, Which::OneByChance, rng);
-        }
-        // The largest drawing goes to the one operation whose answer shows every byte of it.
-        if operation.name == "ohg_rewrite" {
-            let largest = form::write(&cases::drawing(rng, cases::LARGEST));
-            put_calls(&mut list, number, &largest, Which::First, rng);
+    let p8 = form::write(&cases::p8());
+    let refused = damage::each_refusal(&p8);
+    let damaged = damaged(&p8);
+    let rows: usize = GROUPS.iter().map(|group| group.operations.len()).sum();
+    let mut row = 0;
+    for group in GROUPS {
+        for function in functions(group, rooms)? {
+            list.put_picked(&function, rng);
+            for form in &by_hand {
+                list.put_form(&function, form, Which::All, rng);
+            }
+            for form in &refused {
+                list.put_form(&function, form, Which::Exact, rng);
+            }
+            for _ in 0..RANDOM {
+                let form = form::write(&(group.drawing)(rng, 8));
+                list.put_form(&function, &form, Which::OneByChance, rng);
+            }
+            // Dealt out, so that the list grows little as functions are added.
+            for form in damaged.iter().skip(row).step_by(rows) {
+                list.put_form(&function, form, Which::OneByChance, rng);
+            }
+            // The largest drawing goes to the one function whose answer shows every byte of it.
+            if function.operation.name == "ohg_rewrite" {
+                let largest = form::write(&random::drawing(rng, cases::LARGEST));
+                list.put_form(&function, &largest, Which::Exact, rng);
+            }
+            row += 1;
         }
     }
-    list
+    Ok(list)
 }
 
-/// P8's drawing among those worked by hand: it has nodes, edges and pairs.
-const P8: usize = 5;
-
-/// Forms that are refused by each of 1 to 6, in several ways each.
-fn each_refusal(p8: &[u8]) -> Vec<Vec<u8>> {
-    let changed = |at: usize, number: u16| {
-        let mut form = p8.to_vec();
-        form[at..at + 2].copy_from_slice(&number.to_le_bytes());
-        form
-    };
-    let last = p8.len() - 2;
-    vec![
-        vec![],
-        p8[..14].to_vec(),
-        changed(0, 0),
-        changed(1, 0),
-        changed(3, 2),
-        changed(3, 0x0101),
-        changed(5, 2049),
-        changed(7, 2049),
-        changed(9, 1025),
-        changed(11, 1025),
-        changed(13, 1025),
-        // The first edge's target count passes the port limit, or is the most that it may be.
-        changed(37, 8192),
-        changed(37, 8191),
-        p8[..38].to_vec(),
-        p8[..p8.len() - 1].to_vec(),
-        [p8, &[0]].concat(),
-        changed(39, 3),
-        changed(last, 3),
-        changed(last, 65_535),
-    ]
-}
-
-/// Many more such forms: each cut of P8, bytes of it changed, headers, and port sums about their limit.
+/// Many more forms that are refused: each cut of P8, bytes of it changed, headers, and port sums about their limit.
 fn damaged(p8: &[u8]) -> Vec<Vec<u8>> {
     let cuts = (0..p8.len()).map(|n| p8[..n].to_vec());
-    let short_sums = cases::port_sums()
+    let short_sums = damage::port_sums()
         .into_iter()
         .filter(|form| form.len() < 100);
-    cuts.chain(cases::damages(p8).step_by(5))
-        .chain(cases::headers().step_by(59))
+    cuts.chain(damage::damages(p8).step_by(5))
+        .chain(damage::headers().step_by(59))
         .chain(short_sums)
         .collect()
 }
 
-/// Records an operation on a form.
-fn put_calls(list: &mut Vec<u8>, number: usize, form: &[u8], which: Which, rng: &mut Rng) {
-    let operation = &OPERATIONS[number];
-    for arguments in (operation.arguments)(form, rng) {
-        let outcome = (operation.expected)(&arguments);
-        let calls = operation.calls(arguments, &outcome, rng);
+impl List {
+    /// Records a function with the arguments picked by hand.
+    fn put_picked(&mut self, function: &Function, rng: &mut Rng) {
+        let mut large = vec![];
+        for arguments in (function.operation.picked)() {
+            let outcome = (function.operation.expected)(&arguments);
+            let code = outcome.as_ref().err().copied();
+            let written = outcome.map_or(vec![], |answer| answer.written);
+            let bytes = arguments.inputs.concat().len() + written.concat().len();
+            if bytes <= SMALL {
+                self.put_calls(function, arguments, Which::All, rng);
+            } else if bytes <= LARGE && !large.contains(&code) {
+                large.push(code);
+                self.put_calls(function, arguments, Which::Exact, rng);
+            }
+        }
+    }
+
+    /// Records a function on a form, with the first of the arguments that a run tries it with, drawn again while they are
+    /// long by chance.
+    fn put_form(&mut self, function: &Function, form: &[u8], which: Which, rng: &mut Rng) {
+        let mut draw = || (function.operation.arguments)(form, rng).into_iter().next();
+        let long = |arguments: &Arguments| arguments.inputs.concat().len() > form.len() + SMALL;
+        let mut drawn = draw();
+        while drawn.as_ref().is_some_and(long) {
+            drawn = draw();
+        }
+        if let Some(arguments) = drawn {
+            self.put_calls(function, arguments, which, rng);
+        }
+    }
+
+    fn put_calls(
+        &mut self,
+        function: &Function,
+        arguments: Arguments,
+        which: Which,
+        rng: &mut Rng,
+    ) {
+        let outcome = (function.operation.expected)(&arguments);
+        let calls = function.calls(arguments, &outcome, rng);
         let chosen = match which {
             Which::All => 0..calls.len(),
             Which::OneByChance => {
                 let one = rng.below(calls.len());
                 one..one + 1
             }
-            Which::First => 0..1,
+            Which::Exact => 0..1,
         };
         for call in &calls[chosen] {
-            put_record(list, number, call, operation.due(call, &outcome));
+            self.put_record(
+                function.operation.number,
+                call,
+                function.due(call, &outcome),
+            );
         }
     }
-}
 
-fn put_record(list: &mut Vec<u8>, number: usize, call: &Call, due: Due) {
-    list.push(number as u8);
+    fn put_record(&mut self, number: u8, call: &Call, due: Due) {
+        let returned = packed(due);
+        self.records.push((number, returned as u8));
+        self.bytes.push(number);
 
-    list.push(call.arguments.numbers.len() as u8);
-    for n in &call.arguments.numbers {
-        put_number(list, *n);
+        self.bytes.push(call.arguments.numbers.len() as u8);
+        for n in &call.arguments.numbers {
+            self.put_number(*n);
+        }
+
+        self.bytes.push(call.arguments.inputs.len() as u8);
+        for input in &call.arguments.inputs {
+            self.put_bytes(input);
+        }
+
+        self.bytes.push(call.answers.len() as u8);
+        for (buffer, &length) in call.answers.iter().enumerate() {
+            let answer = written(due, buffer);
+            let mut held = vec![FILL; length];
+            held[..answer.len()].copy_from_slice(answer);
+            self.put_bytes(&held);
+        }
+
+        self.put_number(call.room.map_or(NO_ROOM, |room| room as u32));
+        self.bytes.extend_from_slice(&returned.to_le_bytes());
     }
 
-    list.push(call.arguments.inputs.len() as u8);
-    for input in &call.arguments.inputs {
-        put_bytes(list, input);
+    fn put_bytes(&mut self, bytes: &[u8]) {
+        self.put_number(bytes.len() as u32);
+        self.bytes.extend_from_slice(bytes);
     }
 
-    list.push(call.answers.len() as u8);
-    for (buffer, &length) in call.answers.iter().enumerate() {
-        let answer = written(due, buffer);
-        let mut held = vec![FILL; length];
-        held[..answer.len()].copy_from_slice(answer);
-        put_bytes(list, &held);
+    fn put_number(&mut self, n: u32) {
+        self.bytes.extend_from_slice(&n.to_le_bytes());
     }
-
-    put_number(list, call.room.map_or(NO_ROOM, |room| room as u32));
-    list.extend_from_slice(&packed(due).to_le_bytes());
 }
 
-fn put_bytes(list: &mut Vec<u8>, bytes: &[u8]) {
-    put_number(list, bytes.len() as u32);
-    list.extend_from_slice(bytes);
-}
+#[cfg(test)]
+mod tests {
+    use super::*;
+    use std::collections::BTreeSet;
 
-fn put_number(list: &mut Vec<u8>, n: u32) {
-    list.extend_from_slice(&n.to_le_bytes());
+    #[test]
+    fn every_function_is_recorded_with_an_answer_and_each_of_its_refusals() {
+        let rooms = Rooms::read().expect("the header is there");
+        let list = list(&rooms, &mut Rng::new(1)).expect("it names all work rooms");
+        for operation in GROUPS.iter().flat_map(|group| group.operations) {
+            let own = |record: &&(u8, u8)| record.0 == operation.number;
+            let codes: BTreeSet<u8> = list.records.iter().filter(own).map(|r| r.1).collect();
+            let due = operation.refusals.iter().copied().chain([0]).collect();
+            assert_eq!(codes, due, "{}", operation.name);
+        }
+    }
 }

@@ -5,17 +5,27 @@
  * that is needed. A fault in the port ends this program and not the tests.
  *
  * A request, on standard input: the numbers of `struct request`, then the image, which holds all that is lent to the
- * function. The reply, on standard output: the number that the function returned, then the image as it left it. */
+ * function but work room. That is kept here, since it is large and nobody looks at what it holds. It lies between
+ * guards; before every call some of it or all is filled anew, and the rest is as calls before have left it.
+ *
+ * The reply, on standard output: the numbers of `struct reply`, then the image as the function left it. */
 
 typedef unsigned char u8;
 typedef unsigned long u64;
 
-enum { ARGUMENTS = 12, IMAGE_BYTES = 1 << 25 };
+/* A word at any address. */
+typedef u64 __attribute__((aligned(1), may_alias)) word;
+
+enum { ARGUMENTS = 12, IMAGE_BYTES = 1 << 22, ROOM_BYTES = (1 << 24) + 64, GUARD = 256, FILLED = 64 };
 
 struct request {
     u64 function;
     u64 image_bytes;
-    u64 places; /* bit i: argument i is a place in the image */
+    u64 room_bytes;
+    u64 room_fill; /* the eight bytes that it is filled with, over and over */
+    u64 room_step; /* of every so many bytes of it, the first FILLED are filled */
+    u64 places;    /* bit i: argument i is a place in the image */
+    u64 rooms;     /* bit i: argument i is the work room, which begins so many bytes on, below 8 */
     u64 arguments[ARGUMENTS];
 };
 
@@ -25,7 +35,13 @@ typedef u64 function(u64, u64, u64, u64, u64, u64, u64, u64, u64, u64, u64, u64)
 
 extern function *const functions[];
 
-static u8 image[IMAGE_BYTES];
+static struct reply {
+    u64 returned;
+    u64 beside_room; /* whether a guard of the room was written to */
+    u8 image[IMAGE_BYTES];
+} reply;
+
+static u8 room_and_guards[GUARD + ROOM_BYTES + GUARD];
 
 static long system_call(long number, long a, long b, long c) {
     long result;
@@ -56,18 +72,45 @@ static void put(const void *from, u64 n) {
     }
 }
 
+/* Fills bytes with a word, over and over. */
+static void fill(u8 *to, u64 n, u64 with) {
+    u64 at = 0;
+    for (; at + 8 <= n; at += 8) *(word *)(to + at) = with;
+    for (; at < n; at++, with >>= 8) to[at] = with;
+}
+
+/* Whether a guard still holds the word that it was filled with. */
+static int holds(const u8 *guard, u64 with) {
+    u64 changed = 0;
+    for (u64 at = 0; at < GUARD; at += 8) changed |= *(const word *)(guard + at) ^ with;
+    return !changed;
+}
+
 void serve(void) {
     for (;;) {
         struct request r;
         get(&r, sizeof r);
-        if (r.image_bytes > IMAGE_BYTES) end(1);
-        get(image, r.image_bytes);
+        if (r.image_bytes > IMAGE_BYTES || r.room_bytes > ROOM_BYTES - 8) end(1);
+        get(reply.image, r.image_bytes);
+
         u64 *a = r.arguments;
-        for (int i = 0; i < ARGUMENTS; i++)
-            if (r.places >> i & 1) a[i] += (u64)image;
-        u64 returned = functions[r.function](a[0], a[1], a[2], a[3], a[4], a[5], a[6], a[7], a[8], a[9], a[10], a[11]);
-        put(&returned, sizeof returned);
-        put(image, r.image_bytes);
+        u8 *room = room_and_guards + GUARD;
+        for (int i = 0; i < ARGUMENTS; i++) {
+            if (r.places >> i & 1) a[i] += (u64)reply.image;
+            if (r.rooms >> i & 1) a[i] = (u64)(room += a[i]);
+        }
+        u8 *before = room - GUARD, *after = room + r.room_bytes;
+        fill(before, GUARD, ~r.room_fill);
+        for (u8 *part = room; part < after; part += r.room_step) {
+            u64 left = after - part;
+            fill(part, left < FILLED ? left : FILLED, r.room_fill);
+        }
+        fill(after, GUARD, ~r.room_fill);
+
+        function *f = functions[r.function];
+        reply.returned = f(a[0], a[1], a[2], a[3], a[4], a[5], a[6], a[7], a[8], a[9], a[10], a[11]);
+        reply.beside_room = !holds(before, ~r.room_fill) || !holds(after, ~r.room_fill);
+        put(&reply, sizeof reply - IMAGE_BYTES + r.image_bytes);
     }
 }
 

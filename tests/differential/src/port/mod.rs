@@ -15,12 +15,36 @@ const ROOT: &str = concat!(env!("CARGO_MANIFEST_DIR"), "/../..");
 /// The most words that a call may have, as in `caller.c`.
 const ARGUMENTS: usize = 12;
 
+/// How many bytes of the work room are filled at a time, as there.
+const FILLED: u64 = 64;
+
 /// One word of a call.
 #[derive(Debug, Clone, Copy)]
 pub enum Word {
     Number(u64),
     /// A pointer to this place in the image.
     Place(usize),
+    /// A pointer to the work room, which begins so many bytes on, below 8.
+    Room(usize),
+}
+
+/// The work room to lend.
+#[derive(Debug, Clone, Copy, Default)]
+pub struct Room {
+    pub length: usize,
+    /// Eight bytes that it is filled with before the call, over and over.
+    pub fill: u64,
+    /// Whether all of it is filled; else only a part of each KiB, and the rest is as calls before have left it. That
+    /// takes a tenth of the time.
+    pub whole: bool,
+}
+
+/// What can be seen of a call beside the image.
+#[derive(Debug, Clone, Copy)]
+pub struct Reply {
+    pub returned: u64,
+    /// Whether bytes beside the work room were written to.
+    pub beside_room: bool,
 }
 
 pub struct Port {
@@ -51,13 +75,19 @@ impl Port {
         })
     }
 
-    /// Calls a function on words and the image that they point into. None where it did not return: its process has
-    /// ended, and another one takes its place.
-    pub fn call(&mut self, function: &str, words: &[Word], image: &mut [u8]) -> Option<u64> {
+    /// Calls a function on words, and on the image and the work room that they point into. None where it did not return:
+    /// its process has ended, and another one takes its place.
+    pub fn call(
+        &mut self,
+        function: &str,
+        words: &[Word],
+        room: Room,
+        image: &mut [u8],
+    ) -> Option<Reply> {
         let known = self.functions.iter().position(|name| *name == function);
         let number = known.expect("a call names a function that was linked");
-        match self.process.call(number, words, image) {
-            Ok(returned) => Some(returned),
+        match self.process.call(number, words, room, image) {
+            Ok(reply) => Some(reply),
             Err(_) => {
                 self.process = Process::start(&self.command).expect("the process started before");
                 None
@@ -86,9 +116,15 @@ impl Process {
         })
     }
 
-    fn call(&mut self, function: usize, words: &[Word], image: &mut [u8]) -> IoResult<u64> {
+    fn call(
+        &mut self,
+        function: usize,
+        words: &[Word],
+        room: Room,
+        image: &mut [u8],
+    ) -> IoResult<Reply> {
         let mut arguments = [0; ARGUMENTS];
-        let mut places = 0;
+        let (mut places, mut rooms) = (0, 0);
         for (i, word) in words.iter().enumerate() {
             arguments[i] = match *word {
                 Word::Number(n) => n,
@@ -96,22 +132,28 @@ impl Process {
                     places |= 1 << i;
                     at as u64
                 }
+                Word::Room(on) => {
+                    rooms |= 1 << i;
+                    on as u64
+                }
             };
         }
-        let mut request = Vec::with_capacity(8 * (3 + ARGUMENTS) + image.len());
-        for number in [function as u64, image.len() as u64, places]
-            .iter()
-            .chain(&arguments)
-        {
-            request.extend_from_slice(&number.to_le_bytes());
-        }
+        let lengths = [function, image.len(), room.length].map(|n| n as u64);
+        let step = if room.whole { FILLED } else { 1024 };
+        let numbers = [&lengths[..], &[room.fill, step, places, rooms], &arguments].concat();
+        let mut request: Vec<u8> = numbers.iter().flat_map(|n| n.to_le_bytes()).collect();
         request.extend_from_slice(image);
         self.requests.write_all(&request)?;
 
-        let mut returned = [0; 8];
-        self.replies.read_exact(&mut returned)?;
-        self.replies.read_exact(image)?;
-        Ok(u64::from_le_bytes(returned))
+        let mut reply = vec![0; 16 + image.len()];
+        self.replies.read_exact(&mut reply)?;
+        let (returned, reply) = reply.split_at(8);
+        let (beside_room, after) = reply.split_at(8);
+        image.copy_from_slice(after);
+        Ok(Reply {
+            returned: u64::from_le_bytes(returned.try_into().expect("eight bytes")),
+            beside_room: beside_room[0] != 0,
+        })
     }
 }
 

@@ -1,0 +1,120 @@
+//! All drawings of some small kinds.
+
+use super::edge;
+use super::random::{label, some_ids};
+use crate::form::{Drawing, Edge, SPIDER};
+use crate::rng::Rng;
+
+/// All drawings of up to two nodes and two edges, each edge an operation or a spider with up to two ports, each global
+/// list of up to one entry and up to one pair.
+pub fn drawings() -> impl Iterator<Item = Drawing> {
+    (0..=2).flat_map(|nodes| {
+        let edges = up_to(2, &operations_and_spiders(nodes));
+        let lists = up_to(1, &(0..nodes).collect::<Vec<_>>());
+        let pairs = up_to(1, &pairs_of(nodes));
+        let total = edges.len() * lists.len() * lists.len() * pairs.len();
+        (0..total).map(move |k| {
+            let mut digits = k;
+            Drawing {
+                labels: vec![0x0403_0201, u32::MAX][..nodes as usize].to_vec(),
+                edges: edges[place(&mut digits, edges.len())].clone(),
+                sources: lists[place(&mut digits, lists.len())].clone(),
+                targets: lists[place(&mut digits, lists.len())].clone(),
+                pairs: pairs[place(&mut digits, pairs.len())].clone(),
+            }
+        })
+    })
+}
+
+/// The next digit of a mixed-radix number.
+pub fn place(digits: &mut usize, radix: usize) -> usize {
+    let digit = *digits % radix;
+    *digits /= radix;
+    digit
+}
+
+/// All lists of up to so many of the given entries.
+fn up_to<T: Clone>(most: usize, entries: &[T]) -> Vec<Vec<T>> {
+    let mut lists = vec![vec![]];
+    let mut longest = lists.clone();
+    for _ in 0..most {
+        longest = longest
+            .iter()
+            .flat_map(|list| {
+                entries
+                    .iter()
+                    .map(move |e| [list.as_slice(), std::slice::from_ref(e)].concat())
+            })
+            .collect();
+        lists.extend_from_slice(&longest);
+    }
+    lists
+}
+
+fn pairs_of(nodes: u16) -> Vec<(u16, u16)> {
+    (0..nodes)
+        .flat_map(|v| (0..nodes).map(move |w| (v, w)))
+        .collect()
+}
+
+fn operations_and_spiders(nodes: u16) -> Vec<Edge> {
+    let labelled = |edge: Edge| {
+        [9, SPIDER].map(|label| Edge {
+            label,
+            ..edge.clone()
+        })
+    };
+    edges(nodes, 2).into_iter().flat_map(labelled).collect()
+}
+
+/// All edges with up to so many ports on so many nodes.
+fn edges(nodes: u16, ports: usize) -> Vec<Edge> {
+    let mut edges = vec![];
+    for ports in up_to(ports, &(0..nodes).collect::<Vec<_>>()) {
+        for split in 0..=ports.len() {
+            edges.push(edge(9, &ports[..split], &ports[split..]));
+        }
+    }
+    edges
+}
+
+/// All graphs of up to so many nodes, so many edges and so many ports an edge, in every order of edges and ports.
+/// Labels, spiders and global lists are left to chance, and so are pairs where they are wanted.
+pub fn graphs(
+    [nodes, most_edges, ports]: [usize; 3],
+    pairs: bool,
+    mut rng: Rng,
+) -> impl Iterator<Item = Drawing> {
+    let all = (0..=nodes).flat_map(move |nodes| {
+        let edges = edges(nodes as u16, ports);
+        (0..=most_edges as u32).flat_map(move |count| {
+            let edges = edges.clone();
+            (0..edges.len().pow(count)).map(move |k| {
+                let mut digits = k;
+                let some = (0..count).map(|_| edges[place(&mut digits, edges.len())].clone());
+                (nodes, some.collect())
+            })
+        })
+    });
+    all.map(move |(nodes, edges)| dressed(&mut rng, nodes, edges, pairs))
+}
+
+fn dressed(rng: &mut Rng, nodes: usize, mut edges: Vec<Edge>, pairs: bool) -> Drawing {
+    for edge in &mut edges {
+        edge.label = label(rng);
+    }
+    let mut short_list = |most: usize| {
+        let n = rng.below(most + 1);
+        some_ids(rng, if nodes == 0 { 0 } else { n }, nodes)
+    };
+    let (sources, targets) = (short_list(3), short_list(3));
+    let most_pairs = if pairs { 2 } else { 0 };
+    let (left, right) = (short_list(most_pairs), short_list(most_pairs));
+    Drawing {
+        labels: (0..nodes).map(|_| label(rng)).collect(),
+        edges,
+        sources,
+        targets,
+        pairs: left.into_iter().zip(right).collect(),
+    }
+}

@@ -1,0 +1,158 @@
+//! The choice of cycle-breaking nodes, and the no-loop check.
+
+pub mod definition;
+pub mod families;
+
+use crate::arguments::graph_alone;
+use crate::call::{Answer, Arguments, Outcome};
+use crate::cases::{self, random, small};
+use crate::convert::Graph;
+use crate::form::{self, id_bytes, Drawing, Refusal, MOST_NODES};
+use crate::operation::Parameter::{Answered, Input, Room};
+use crate::operation::{Forms, Group, Operation};
+use crate::rng::Rng;
+use crate::steps::{graph, Checked};
+use oracle::lax::cycle;
+
+pub const GROUP: Group = Group {
+    name: "choice",
+    operations: OPERATIONS,
+    share: 3,
+    fixed,
+    every,
+    step: 256,
+    drawing,
+    damaged: 1,
+};
+
+const OPERATIONS: &[Operation] = &[
+    Operation {
+        number: 14,
+        name: "ohg_cycle_breaking_nodes",
+        parameters: &[Input, Answered, Room],
+        refusals: &[1, 2, 3, 4, 5, 6, 8, 10],
+        picked: Vec::new,
+        arguments: graph_alone,
+        expected: cycle_breaking_nodes,
+    },
+    Operation {
+        number: 17,
+        name: "ohg_no_loop",
+        parameters: &[Input, Room],
+        refusals: &[1, 2, 3, 4, 5, 6, 8, 10],
+        picked: Vec::new,
+        arguments: graph_alone,
+        expected: no_loop,
+    },
+];
+
+/// 1 to 6, and 8.
+pub fn unpaired(arguments: &Arguments) -> Checked<Graph> {
+    let graph = graph(arguments)?;
+    if graph.hypergraph.is_strict() {
+        Ok(graph)
+    } else {
+        Err(Refusal::Pair)
+    }
+}
+
+/// The original's list, and the free count of the definition, whose own list must be the same.
+fn cycle_breaking_nodes(arguments: &Arguments) -> Outcome {
+    let graph = unpaired(arguments)?;
+    let chosen = cycle::cycle_breaking_nodes(&graph).expect("there are no pairs");
+    let chosen: Vec<usize> = chosen.iter().map(|node| node.0).collect();
+    let (defined, free) = definition::choice(&graph);
+    assert_eq!(chosen, defined, "document 01's choice is the original's");
+    Ok(Answer {
+        a: chosen.len() as u32,
+        b: free as u32,
+        written: vec![id_bytes(chosen)],
+    })
+}
+
+fn no_loop(arguments: &Arguments) -> Outcome {
+    let graph = unpaired(arguments)?;
+    Ok(yes_or_no(definition::no_loop(&graph)))
+}
+
+pub fn yes_or_no(yes: bool) -> Answer {
+    Answer {
+        a: yes.into(),
+        b: 0,
+        written: vec![],
+    }
+}
+
+/// Drawings at the limits, without their pairs, the largest of each family, and rings with large scores.
+fn fixed(rng: &mut Rng) -> Vec<Vec<u8>> {
+    let at_limits = cases::at_limits(rng).into_iter().map(without_pairs);
+    let largest = families::FAMILIES.map(|family| family(rng, MOST_NODES));
+    let heavy = (0..32).map(|i| families::heavy_ring(rng, 1 + i % 4));
+    let drawings = at_limits.chain(largest).chain(heavy);
+    drawings.map(|drawing| form::write(&drawing)).collect()
+}
+
+/// All multigraphs of up to three nodes and two edges with up to four ports each; with three edges, up to two ports
+/// each, and up to three on two nodes.
+fn every(mut rng: Rng) -> Forms {
+    let mut graphs = |sizes| small::graphs(sizes, false, Rng::new(rng.number()));
+    let all = graphs([3, 2, 4])
+        .chain(graphs([3, 3, 2]))
+        .chain(graphs([2, 3, 3]));
+    Box::new(all.map(|drawing| form::write(&drawing)))
+}
+
+/// One of a family, or any other; one in sixteen of these may have pairs.
+pub fn drawing(rng: &mut Rng, most: usize) -> Drawing {
+    if rng.once_in(2) {
+        return families::mixed(rng, most);
+    }
+    let drawing = random::drawing_of(rng, most);
+    if rng.once_in(16) {
+        drawing
+    } else {
+        without_pairs(drawing)
+    }
+}
+
+pub fn without_pairs(drawing: Drawing) -> Drawing {
+    Drawing {
+        pairs: vec![],
+        ..drawing
+    }
+}
+
+#[cfg(test)]
+mod tests {
+    use super::*;
+    use crate::cases::{p1, p2, p4, p6, p7, p9};
+
+    fn on(drawing: &Drawing) -> Arguments {
+        Arguments::new(&[], &[&form::write(drawing)])
+    }
+
+    /// The list and the free count.
+    fn chosen(drawing: Drawing) -> (Vec<u8>, u32) {
+        let answer = cycle_breaking_nodes(&on(&drawing)).expect("it is answered");
+        (answer.written[0].clone(), answer.b)
+    }
+
+    #[test]
+    fn the_choices_worked_by_hand() {
+        assert_eq!(chosen(p1()), (id_bytes([]), 0));
+        assert_eq!(chosen(p2()), (id_bytes([0]), 1));
+        assert_eq!(chosen(p4()), (id_bytes([]), 1));
+        assert_eq!(chosen(p6()), (id_bytes([0]), 3));
+        assert_eq!(chosen(p7()), (id_bytes([0, 1, 2]), 2));
+        let refused = cycle_breaking_nodes(&on(&p9())).map(|answer| answer.a);
+        assert_eq!(refused, Err(Refusal::Pair));
+    }
+
+    #[test]
+    fn no_loop_is_an_empty_choice() {
+        for drawing in small::graphs([2, 2, 3], false, Rng::new(1)) {
+            let yes = no_loop(&on(&drawing)).expect("it is answered").a == 1;
+            assert_eq!(yes, chosen(drawing).0.is_empty());
+        }
+    }
+}

@@ -1,0 +1,26 @@
+//! The table of exported functions, by groups.
+
+mod building;
+pub mod choice;
+mod deleting;
+pub mod once_fed;
+mod reading;
+
+use crate::operation::{Function, Group};
+use crate::rooms::Rooms;
+
+/// The groups, in the order in which a run tries them.
+pub const GROUPS: &[Group] = &[
+    reading::GROUP,
+    building::GROUP,
+    deleting::GROUP,
+    choice::GROUP,
+    once_fed::GROUP,
+];
+
+/// A group's functions.
+pub fn functions(group: &Group, rooms: &Rooms) -> Result<Vec<Function>, String> {
+    let rows = group.operations.iter();
+    rows.map(|operation| Function::new(operation, rooms))
+        .collect()
+}
