@@ -1,7 +1,0 @@
-pub mod Walk
-pub mod Lists
-pub mod Entries
-pub mod Edges
-pub mod Graphs
-pub mod Parts
-pub mod Calls
