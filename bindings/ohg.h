@@ -48,6 +48,8 @@ enum ohg_refusal {
 /* The bytes of work room that each function asks for. What it holds after a call is not fixed. */
 #define OHG_ROOM_DELETE_EDGES 2048
 #define OHG_ROOM_DELETE_NODES 2048
+#define OHG_ROOM_SPIDERIZE 16384
+#define OHG_ROOM_SPIDERIZE_NODES 16384
 #define OHG_ROOM_CYCLE_BREAKING_NODES 466944
 #define OHG_ROOM_NO_LOOP 303104
 #define OHG_ROOM_ONCE_FED 2048
@@ -118,6 +120,17 @@ uint64_t ohg_delete_edges(const uint8_t *src, size_t src_len, const uint8_t *ids
  * a: bytes written to `out`. b: map entries written. Refusals: 10 (room), 1 to 7, 10. */
 uint64_t ohg_delete_nodes(const uint8_t *src, size_t src_len, const uint8_t *ids, size_t ids_len, uint8_t *out, size_t out_len,
                           uint8_t *map, size_t map_len, uint8_t *room, size_t room_len);
+
+/* The graph with the implicit wiring of all its nodes made explicit: every entry of a node gets a fresh node with its label, numbered on from
+ * the node count, and two spiders are appended for each node, which join what the fresh nodes took apart. A spider already there stays one.
+ * a: bytes written. b: 0. Refusals: 10 (room), 1 to 6, 8, 9, 10. */
+uint64_t ohg_spiderize(const uint8_t *src, size_t src_len, uint8_t *out, size_t out_len, uint8_t *room, size_t room_len);
+
+/* The same of the nodes in a list, 2 bytes an id; repeats and order have no effect. Spiderizing the nodes that ohg_cycle_breaking_nodes
+ * lists leaves no directed cycle.
+ * a: bytes written. b: 0. Refusals: 10 (room), 1 to 10. */
+uint64_t ohg_spiderize_nodes(const uint8_t *src, size_t src_len, const uint8_t *ids, size_t ids_len, uint8_t *out, size_t out_len,
+                             uint8_t *room, size_t room_len);
 
 /* Chooses nodes that every directed cycle passes through; `list` gets their ids, 2 bytes each, ascending. It is empty exactly when
  * there is no directed cycle.

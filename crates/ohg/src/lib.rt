@@ -5,7 +5,7 @@ ghost use Prim.Native.Nat.{_/_};
 ghost use lib.ListN.{length};
 ghost use Rattle.graph.specs.Graph.{form1};
 ghost use Rattle.graph.specs.Answer.{laid};
-ghost use Rattle.graph.specs.Calls.{readCall, onGraph, onNothing, rewriteStep, emptyStep, discreteStep, identityStep, singletonStep, newNodeStep, newEdgeStep, newOperationStep, unifyStep, addEdgeSourceStep, addEdgeTargetStep, inWorkRoom, deleteEdgesStep, deleteNodesCall, onceFedCall};
+ghost use Rattle.graph.specs.Calls.{readCall, onGraph, onNothing, rewriteStep, emptyStep, discreteStep, identityStep, singletonStep, newNodeStep, newEdgeStep, newOperationStep, unifyStep, addEdgeSourceStep, addEdgeTargetStep, inWorkRoom, deleteEdgesStep, deleteNodesCall, spiderizeStep, spiderizeAllStep, onceFedCall};
 ghost use Rattle.choice.specs.Calls.{cycleBreakingNodesCall, noLoopCall};
 ghost use Rattle.ohg.specs.Packed.{packedAs, packedWritten, packedChecked, packedDeleting, packedCutting, Packs, DeletingPacks, CuttingPacks};
 use cycle::Cutting;
@@ -211,6 +211,31 @@ pub extern "C" fn ohg_delete_nodes(
 {
     let d = delete::delete_nodes(src, ids, out, map, room);
     pack_deleting(d)
+}
+
+// The graph spiderized at all its nodes.
+#[no_mangle]
+pub extern "C" fn ohg_spiderize(src: &[u8], out: &mut [u8], room: &mut [u8]) -> u64
+    ensures { λ r. ⌜ r ≡ packedAs (λ m. length (m .form)) (λ m. m .id) (inWorkRoom 16384 (length (now (room .entry))) (onGraph form1 (now (src .entry)) (length (now (out .entry))) spiderizeAllStep)) ⌝ }
+    ensures { λ r. ⌜ now (out .exit) ≡ laid (λ m. m .form) (inWorkRoom 16384 (length (now (room .entry))) (onGraph form1 (now (src .entry)) (length (now (out .entry))) spiderizeAllStep)) (now (out .entry)) ⌝ }
+{
+    let w = spider::spiderize(src, out, room);
+    pack(w)
+}
+
+// The graph spiderized at these nodes.
+#[no_mangle]
+pub extern "C" fn ohg_spiderize_nodes(
+    src: &[u8],
+    ids: &[u8],
+    out: &mut [u8],
+    room: &mut [u8],
+) -> u64
+    ensures { λ r. ⌜ r ≡ packedAs (λ m. length (m .form)) (λ m. m .id) (inWorkRoom 16384 (length (now (room .entry))) (onGraph form1 (now (src .entry)) (length (now (out .entry))) (spiderizeStep form1 (now (ids .entry))))) ⌝ }
+    ensures { λ r. ⌜ now (out .exit) ≡ laid (λ m. m .form) (inWorkRoom 16384 (length (now (room .entry))) (onGraph form1 (now (src .entry)) (length (now (out .entry))) (spiderizeStep form1 (now (ids .entry))))) (now (out .entry)) ⌝ }
+{
+    let w = spider::spiderize_nodes(src, ids, out, room);
+    pack(w)
 }
 
 // What the choice answered, as one number: code, ids in the list and vertices removed freely.

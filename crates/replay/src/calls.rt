@@ -108,6 +108,7 @@ fn yes_or_no(operation: u8, src: &[u8], room: &mut [u8], due: u64) -> bool {
 fn one_in_with_room(operation: u8, src: &[u8], out: &mut [u8], room: &mut [u8], due: u64) -> bool {
     match operation {
         14 => ohg::ohg_cycle_breaking_nodes(src, out, room) == due,
+        15 => ohg::ohg_spiderize(src, out, room) == due,
         _ => false,
     }
 }
@@ -122,6 +123,7 @@ fn two_in_with_room(
 ) -> bool {
     match operation {
         12 => ohg::ohg_delete_edges(src, ids, out, room) == due,
+        16 => ohg::ohg_spiderize_nodes(src, ids, out, room) == due,
         _ => false,
     }
 }

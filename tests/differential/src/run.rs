@@ -8,6 +8,7 @@ use crate::operation::{Forms, Function, Group};
 use crate::port::Port;
 use crate::rng::Rng;
 use crate::rooms::Rooms;
+use crate::rows::spidering::chain;
 use crate::rows::{functions, GROUPS};
 use crate::show::show;
 use std::collections::BTreeMap;
@@ -39,7 +40,8 @@ pub struct Run {
 
 /// All shares of a run.
 pub fn shares() -> u64 {
-    GROUPS.iter().map(|group| group.share).sum()
+    let groups: u64 = GROUPS.iter().map(|group| group.share).sum();
+    groups + chain::SHARE
 }
 
 /// Compares everything, and says whether all agreed.
@@ -52,6 +54,9 @@ pub fn run(seed: u64, amount: Amount) -> Result<bool, String> {
         let calls = run.calls() - before;
         println!("{}: {calls} calls on {forms} forms", group.name);
     }
+    let before = run.calls();
+    chain::follow(&mut run, amount);
+    println!("chain: {} calls", run.calls() - before);
     run.print_counts();
     println!("{} passed, {} failed", run.passed, run.failed);
     Ok(run.failed == 0)

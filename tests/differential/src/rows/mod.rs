@@ -5,6 +5,7 @@ pub mod choice;
 mod deleting;
 pub mod once_fed;
 mod reading;
+pub mod spidering;
 
 use crate::operation::{Function, Group};
 use crate::rooms::Rooms;
@@ -16,6 +17,7 @@ pub const GROUPS: &[Group] = &[
     deleting::GROUP,
     choice::GROUP,
     once_fed::GROUP,
+    spidering::GROUP,
 ];
 
 /// A group's functions.
