@@ -1,0 +1,139 @@
+//! Times several ways of doing the same, by turns.
+
+use std::hint::black_box;
+use std::sync::OnceLock;
+use std::time::Duration;
+
+/// Rounds, each of one batch of calls on every side.
+pub const ROUNDS: usize = 41;
+
+/// How long a batch takes, about.
+pub const BATCH: Duration = Duration::from_millis(2);
+
+/// Inputs that are made for each call are made before as many calls as they go into a cache, but not for more than so
+/// many; and so many calls are a batch at most.
+const CACHE_BYTES: usize = 1 << 18;
+const MOST_MADE: usize = 64;
+const MOST_CALLS_ON_MADE: usize = 256;
+
+/// One of the ways: it makes so many calls and says how long they took.
+pub struct Side<'a> {
+    timed: Box<dyn FnMut(usize) -> Duration + 'a>,
+    most: usize,
+}
+
+impl<'a> Side<'a> {
+    /// Calls that leave their inputs as they are.
+    pub fn new<R>(mut call: impl FnMut() -> R + 'a) -> Self {
+        let timed = move |calls: usize| {
+            time(|| {
+                for _ in 0..calls {
+                    black_box(call());
+                }
+            })
+        };
+        Side {
+            timed: Box::new(timed),
+            most: usize::MAX,
+        }
+    }
+
+    /// Calls that change what they are given, of about so many bytes. It is made before, and dropped after, outside of
+    /// what is timed.
+    pub fn on<T, R>(
+        bytes: usize,
+        mut make: impl FnMut() -> T + 'a,
+        mut call: impl FnMut(&mut T) -> R + 'a,
+    ) -> Self {
+        let at_a_time = (CACHE_BYTES / bytes.max(1)).clamp(1, MOST_MADE);
+        let timed = move |calls: usize| {
+            let mut left = calls;
+            let mut taken = Duration::ZERO;
+            while left > 0 {
+                let mut inputs: Vec<T> = (0..left.min(at_a_time)).map(|_| make()).collect();
+                left -= inputs.len();
+                taken += time(|| {
+                    for input in &mut inputs {
+                        black_box(call(black_box(input)));
+                    }
+                });
+            }
+            taken
+        };
+        Side {
+            timed: Box::new(timed),
+            most: MOST_CALLS_ON_MADE,
+        }
+    }
+
+    /// How many calls fill a batch.
+    fn batch_size(&mut self) -> usize {
+        let mut calls = 1;
+        loop {
+            let taken = (self.timed)(calls);
+            if calls >= self.most {
+                return self.most;
+            }
+            if taken >= BATCH / 4 {
+                let fill = BATCH.as_nanos() * calls as u128 / taken.as_nanos();
+                return (fill as usize).clamp(1, self.most);
+            }
+            calls *= 2;
+        }
+    }
+}
+
+/// The median of the nanoseconds that a call takes, for each side.
+pub fn medians<const N: usize>(mut sides: [Side; N]) -> [f64; N] {
+    let calls = sides.each_mut().map(Side::batch_size);
+    let mut times = [const { vec![] }; N];
+    for round in 0..ROUNDS {
+        // Whatever slows one side of a round down falls to the others as often.
+        for turn in 0..N {
+            let side = (round + turn) % N;
+            let taken = (sides[side].timed)(calls[side]);
+            times[side].push(taken.as_nanos() as f64 / calls[side] as f64);
+        }
+    }
+    times.map(median)
+}
+
+fn median<T: PartialOrd + Copy>(mut times: Vec<T>) -> T {
+    times.sort_by(|a, b| a.partial_cmp(b).expect("times can be compared"));
+    times[times.len() / 2]
+}
+
+/// The processor's time for some work, without what taking the time takes.
+fn time(work: impl FnOnce()) -> Duration {
+    static OF_NOTHING: OnceLock<Duration> = OnceLock::new();
+    let nothing = || median((0..1001).map(|_| raw_time(|| ())).collect());
+    let taken = raw_time(work).saturating_sub(*OF_NOTHING.get_or_init(nothing));
+    taken.max(Duration::from_nanos(1))
+}
+
+fn raw_time(work: impl FnOnce()) -> Duration {
+    let start = processor_time();
+    work();
+    processor_time() - start
+}
+
+/// How long this thread has had a processor: what else runs on the machine does not count.
+fn processor_time() -> Duration {
+    #[repr(C)]
+    struct Time {
+        seconds: i64,
+        nanoseconds: i64,
+    }
+    extern "C" {
+        fn clock_gettime(clock: i32, time: *mut Time) -> i32;
+    }
+    const THREAD_PROCESSOR_TIME: i32 = 3;
+    let mut time = Time {
+        seconds: 0,
+        nanoseconds: 0,
+    };
+    // SAFETY: the C library, with which every Rust program on Linux is linked, writes one such record.
+    let failed = unsafe { clock_gettime(THREAD_PROCESSOR_TIME, &mut time) };
+    assert_eq!(failed, 0, "Linux has this clock");
+    Duration::new(time.seconds as u64, time.nanoseconds as u32)
+}
