@@ -2,9 +2,17 @@
  *
  * Every function takes any bytes and any lists, checks them itself, and ends. A slice is a pointer and then its length in bytes.
  * Pointers must not be null, even where the length is 0, and no two of the slices of a call may overlap: no check can see that.
- * What is lent as `const` is never written.
+ * What is lent as `const` is never written. All numbers in slices are little-endian. A parameter means the same wherever it stands:
  *
- * Every function returns one 64-bit number of three: code, a and b. Code is 0 on success, and a and b are what the function's comment says.
+ *   src                                   a stored graph
+ *   sources, targets, ids                 a list of ids, 2 bytes each
+ *   labels, source_labels, target_labels  a list of labels, 4 bytes each
+ *   label, v, w, edge                     one label, two node ids, an edge id
+ *   out                                   gets the stored form of the answered graph
+ *   room                                  work room, at least as long as the function's OHG_ROOM_.. says; it may begin at any address and
+ *                                         hold anything, and what it holds after the call is not fixed
+ *
+ * Every function returns code | a << 8 | b << 32: 8, 24 and 32 bits. Code is 0 on success, and a and b are what the function's comment says.
  * On a refusal code is the refusal's number, a and b are 0, and no answer buffer has been written to. On success the bytes of an answer
  * buffer past the answer stay as they were.
  *
@@ -24,7 +32,8 @@ extern "C" {
 #define OHG_A(answer) ((uint32_t)((answer) >> 8 & 0xFFFFFF))
 #define OHG_B(answer) ((uint32_t)((answer) >> 32))
 
-/* Why a call was refused; the first that holds, in this order, after OHG_SHORT_BUFFER for work room that is too short. */
+/* Why a call was refused; the first that holds, in this order, but OHG_SHORT_BUFFER for work room before all others, and 4 and 5 after the
+ * header as they are met from left to right. */
 enum ohg_refusal {
     OHG_DONE = 0,           /* not refused */
     OHG_NO_HEADER = 1,      /* fewer than 15 bytes: not a stored form, or cut in its header */
@@ -34,7 +43,7 @@ enum ohg_refusal {
     OHG_OTHER_LENGTH = 5,   /* the length is not what the counts call for: cut short, or bytes follow */
     OHG_FOREIGN_ID = 6,     /* a stored node id is not below the node count */
     OHG_BAD_LIST = 7,       /* a list in the call ends in a broken entry, or an id in the call is not below its count */
-    OHG_PENDING_PAIR = 8,   /* the graph has a pending pair, and the operation needs none: merge first */
+    OHG_PENDING_PAIR = 8,   /* the graph has a pending pair, and the operation needs none: draw joined nodes as one, or delete one of each pair */
     OHG_RESULT_LIMIT = 9,   /* the result would pass a limit: split the drawing */
     OHG_SHORT_BUFFER = 10   /* an answer buffer is shorter than the answer, or work room is shorter than its macro says */
 };
@@ -45,7 +54,14 @@ enum ohg_refusal {
 /* The bytes that ohg_read answers. */
 #define OHG_SIZES_BYTES 24
 
-/* The bytes of work room that each function asks for. What it holds after a call is not fixed. */
+/* The most bytes of an answered list or map: 2 for each of 2,048 nodes. */
+#define OHG_LIST_BYTES 4096
+
+/* The edge label that says spider, and what stands in a map for a node that went. */
+#define OHG_SPIDER 4294967295u
+#define OHG_GONE 65535u
+
+/* The bytes of work room that each function asks for. */
 #define OHG_ROOM_DELETE_EDGES 2048
 #define OHG_ROOM_DELETE_NODES 2048
 #define OHG_ROOM_SPIDERIZE 16384
@@ -67,7 +83,7 @@ uint64_t ohg_rewrite(const uint8_t *src, size_t src_len, uint8_t *out, size_t ou
  * a: bytes written. b: 0. Refusals: 10. */
 uint64_t ohg_empty(uint8_t *out, size_t out_len);
 
-/* Nodes of these labels (4 bytes each) and nothing else.
+/* Nodes of these labels and nothing else.
  * a: bytes written. b: 0. Refusals: 7, 9, 10. */
 uint64_t ohg_discrete(const uint8_t *labels, size_t labels_len, uint8_t *out, size_t out_len);
 
@@ -85,7 +101,7 @@ uint64_t ohg_singleton(uint32_t label, const uint8_t *source_labels, size_t sour
  * a: bytes written. b: the new node's id. Refusals: 1 to 6, 9, 10. */
 uint64_t ohg_new_node(const uint8_t *src, size_t src_len, uint32_t label, uint8_t *out, size_t out_len);
 
-/* One more edge between nodes that are there (ids of 2 bytes each). Label 4,294,967,295 makes a spider.
+/* One more edge between nodes that are there. Label OHG_SPIDER makes a spider.
  * a: bytes written. b: the new edge's id. Refusals: 1 to 7, 9, 10. */
 uint64_t ohg_new_edge(const uint8_t *src, size_t src_len, uint32_t label, const uint8_t *sources, size_t sources_len,
                       const uint8_t *targets, size_t targets_len, uint8_t *out, size_t out_len);
@@ -110,39 +126,39 @@ uint64_t ohg_add_edge_source(const uint8_t *src, size_t src_len, uint32_t edge, 
 uint64_t ohg_add_edge_target(const uint8_t *src, size_t src_len, uint32_t edge, uint32_t label, uint8_t *out, size_t out_len);
 
 /* The graph without these edges; the rest keep their order. Repeated ids count once.
- * a: bytes written. b: 0. Refusals: 10 (room), 1 to 7, 10. */
+ * a: bytes written. b: 0. Room: OHG_ROOM_DELETE_EDGES. Refusals: 10 (room), 1 to 7, 10. */
 uint64_t ohg_delete_edges(const uint8_t *src, size_t src_len, const uint8_t *ids, size_t ids_len, uint8_t *out, size_t out_len,
                           uint8_t *room, size_t room_len);
 
 /* The graph without these nodes: every entry of them is dropped from edge and global lists, a pair is dropped if either end goes,
  * the rest are numbered anew in order.
- * `map` gets 2 bytes for each old node: its new id, or 65,535 where it went. If either buffer is too short neither is written.
- * a: bytes written to `out`. b: map entries written. Refusals: 10 (room), 1 to 7, 10. */
+ * `map` gets 2 bytes for each old node: its new id, or OHG_GONE. If either buffer is too short neither is written.
+ * a: bytes written to `out`. b: map entries written. Room: OHG_ROOM_DELETE_NODES. Refusals: 10 (room), 1 to 7, 10. */
 uint64_t ohg_delete_nodes(const uint8_t *src, size_t src_len, const uint8_t *ids, size_t ids_len, uint8_t *out, size_t out_len,
                           uint8_t *map, size_t map_len, uint8_t *room, size_t room_len);
 
 /* The graph with the implicit wiring of all its nodes made explicit: every entry of a node gets a fresh node with its label, numbered on from
  * the node count, and two spiders are appended for each node, which join what the fresh nodes took apart. A spider already there stays one.
- * a: bytes written. b: 0. Refusals: 10 (room), 1 to 6, 8, 9, 10. */
+ * a: bytes written. b: 0. Room: OHG_ROOM_SPIDERIZE. Refusals: 10 (room), 1 to 6, 8, 9, 10. */
 uint64_t ohg_spiderize(const uint8_t *src, size_t src_len, uint8_t *out, size_t out_len, uint8_t *room, size_t room_len);
 
 /* The same of the nodes in a list, 2 bytes an id; repeats and order have no effect. Spiderizing the nodes that ohg_cycle_breaking_nodes
  * lists leaves no directed cycle.
- * a: bytes written. b: 0. Refusals: 10 (room), 1 to 10. */
+ * a: bytes written. b: 0. Room: OHG_ROOM_SPIDERIZE_NODES. Refusals: 10 (room), 1 to 10. */
 uint64_t ohg_spiderize_nodes(const uint8_t *src, size_t src_len, const uint8_t *ids, size_t ids_len, uint8_t *out, size_t out_len,
                              uint8_t *room, size_t room_len);
 
 /* Chooses nodes that every directed cycle passes through; `list` gets their ids, 2 bytes each, ascending. It is empty exactly when
  * there is no directed cycle.
- * a: ids in the list. b: vertices removed freely. Refusals: 10 (room), 1 to 6, 8, 10. */
+ * a: ids in the list. b: vertices removed freely. Room: OHG_ROOM_CYCLE_BREAKING_NODES. Refusals: 10 (room), 1 to 6, 8, 10. */
 uint64_t ohg_cycle_breaking_nodes(const uint8_t *src, size_t src_len, uint8_t *list, size_t list_len, uint8_t *room, size_t room_len);
 
 /* Whether there is no directed cycle.
- * a: 1 yes, 0 no. b: 0. Refusals: 10 (room), 1 to 6, 8. */
+ * a: 1 yes, 0 no. b: 0. Room: OHG_ROOM_NO_LOOP. Refusals: 10 (room), 1 to 6, 8. */
 uint64_t ohg_no_loop(const uint8_t *src, size_t src_len, uint8_t *room, size_t room_len);
 
 /* Whether each node occurs at most once among all edge targets and at most once among all edge sources.
- * a: 1 yes, 0 no. b: 0. Refusals: 10 (room), 1 to 6, 8. */
+ * a: 1 yes, 0 no. b: 0. Room: OHG_ROOM_ONCE_FED. Refusals: 10 (room), 1 to 6, 8. */
 uint64_t ohg_once_fed(const uint8_t *src, size_t src_len, uint8_t *room, size_t room_len);
 
 #ifdef __cplusplus

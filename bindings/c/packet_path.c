@@ -1,0 +1,108 @@
+/* A load balancer's packet path: drawn, asked for loops, cut where the choice says, and asked again.
+ *
+ * bindings/rust/examples/packet_path.rs does the same and prints the same. It has the path as a picture, and what is printed worked
+ * out by hand.
+ *
+ *     cc -I bindings bindings/c/packet_path.c target/staticlib/libohg.a -o packet_path */
+#include <stdio.h>
+#include <stdlib.h>
+
+#include "ohg.h"
+
+#define COUNT(array) (sizeof(array) / sizeof(array)[0])
+
+/* The wires' names and, as labels, how many bits they carry at once; a wire's place is its id. */
+enum { ARRIVED, MERGED, BODY, KEY, SERVER, HEALTH, READY, LEAVING, RETRY };
+static const struct {
+    const char *name;
+    uint32_t bits;
+} wires[] = {
+    {"arrived", 512}, {"merged", 512}, {"body", 512},    {"key", 104},   {"server", 16},
+    {"health", 1},    {"ready", 512},  {"leaving", 512}, {"retry", 512},
+};
+
+/* The blocks: kinds as labels, how many sources and targets they have, and these, sources first. */
+static const struct {
+    uint32_t kind;
+    size_t sources, targets;
+    uint16_t ids[3];
+} blocks[] = {
+    {1, 0, 1, {ARRIVED}},                 /* receive */
+    {11, 2, 1, {ARRIVED, RETRY, MERGED}}, /* joiner */
+    {3, 1, 2, {MERGED, BODY, KEY}},       /* parser */
+    {6, 2, 1, {KEY, HEALTH, SERVER}},     /* pick */
+    {8, 1, 1, {SERVER, HEALTH}},          /* probe */
+    {7, 2, 1, {BODY, SERVER, READY}},     /* rewriter */
+    {10, 1, 2, {READY, LEAVING, RETRY}},  /* splitter */
+    {2, 1, 0, {LEAVING}},                 /* transmit */
+};
+
+/* Work room for every call: the choice asks for the most. */
+static uint8_t room[OHG_ROOM_CYCLE_BREAKING_NODES];
+
+/* The answer of a call; a refusal ends the program. */
+static uint64_t answered(const char *function, uint64_t answer) {
+    if (OHG_CODE(answer) != OHG_DONE) {
+        fprintf(stderr, "%s refused by %u\n", function, OHG_CODE(answer));
+        exit(1);
+    }
+    return answer;
+}
+
+/* Numbers in lists and answers are little-endian, of 2 bytes or of 4. */
+static void put(uint8_t *at, size_t bytes, uint32_t number) {
+    for (size_t i = 0; i < bytes; i++) at[i] = (uint8_t)(number >> 8 * i);
+}
+
+static uint32_t get(const uint8_t *at, size_t bytes) {
+    uint32_t number = 0;
+    for (size_t i = 0; i < bytes; i++) number |= (uint32_t)at[i] << 8 * i;
+    return number;
+}
+
+static void show(const char *name, const uint8_t *form, size_t len) {
+    uint8_t sizes[OHG_SIZES_BYTES];
+    answered("ohg_read", ohg_read(form, len, sizes, sizeof sizes));
+    uint64_t no_loop = answered("ohg_no_loop", ohg_no_loop(form, len, room, sizeof room));
+    uint64_t once_fed = answered("ohg_once_fed", ohg_once_fed(form, len, room, sizeof room));
+    printf("%s: %u wires, %u blocks, %u ports\n", name, get(sizes, 4), get(sizes + 4, 4), get(sizes + 8, 4));
+    printf("  no loop: %s\n", OHG_A(no_loop) ? "yes" : "no");
+    printf("  once fed: %s\n", OHG_A(once_fed) ? "yes" : "no");
+}
+
+int main(void) {
+    /* A call reads the graph in one buffer and writes its answer to the other. */
+    static uint8_t forms[2][OHG_FORM_BYTES];
+    uint8_t *path = forms[0], *next = forms[1];
+
+    uint8_t labels[4 * COUNT(wires)];
+    for (size_t i = 0; i < COUNT(wires); i++) put(labels + 4 * i, 4, wires[i].bits);
+    uint64_t answer = ohg_discrete(labels, sizeof labels, path, OHG_FORM_BYTES);
+    size_t len = OHG_A(answered("ohg_discrete", answer));
+
+    for (size_t i = 0; i < COUNT(blocks); i++) {
+        uint8_t ids[2 * COUNT(blocks[i].ids)];
+        for (size_t k = 0; k < COUNT(blocks[i].ids); k++) put(ids + 2 * k, 2, blocks[i].ids[k]);
+        size_t sources = 2 * blocks[i].sources, targets = 2 * blocks[i].targets;
+        answer = ohg_new_edge(path, len, blocks[i].kind, ids, sources, ids + sources, targets, next, OHG_FORM_BYTES);
+        len = OHG_A(answered("ohg_new_edge", answer));
+        uint8_t *old = path;
+        path = next;
+        next = old;
+    }
+    show("packet path", path, len);
+
+    uint8_t list[2 * COUNT(wires)];
+    answer = ohg_cycle_breaking_nodes(path, len, list, sizeof list, room, sizeof room);
+    uint32_t chosen = OHG_A(answered("ohg_cycle_breaking_nodes", answer));
+    printf("loop buffers: %u (removed freely: %u)\n", chosen, OHG_B(answer));
+    for (size_t i = 0; i < chosen; i++) {
+        uint32_t id = get(list + 2 * i, 2);
+        printf("  wire %u, %s\n", id, wires[id].name);
+    }
+
+    answer = ohg_spiderize_nodes(path, len, list, 2 * chosen, next, OHG_FORM_BYTES, room, sizeof room);
+    len = OHG_A(answered("ohg_spiderize_nodes", answer));
+    show("spiderized", next, len);
+    return 0;
+}

@@ -1,0 +1,96 @@
+//! A load balancer's packet path: drawn, asked for loops, cut where the choice says, and asked again.
+//!
+//! ```text
+//! receive -arrived-> joiner -merged-> parser --body-------------> rewriter -ready-> splitter -leaving-> transmit
+//!                      ^                 |                           ^                  |
+//!                      |                 +--key--> pick --server-----+                  |
+//!                      |                            ^       |                           |
+//!                      |                            |       +--> probe                  |
+//!                      |                            +--health------+                    |
+//!                      +------------------------------retry-----------------------------+
+//! ```
+//!
+//! A packet that no server takes is sent round again (retry, by way of body and by way of key), and the server picked
+//! last is probed for the next pick (health): three loops, and each needs a buffer.
+//!
+//! What is printed, worked out by hand. The wires are nodes 0 to 8, the blocks edges 0 to 7: 17 vertices.
+//!
+//! - Nothing leads to receive, so it goes freely, and then arrived; transmit leads to nothing, and goes with leaving: 4.
+//!   Of the wires left, server has one arc in and two out and scores 2; the others have one each and score 1. Server (4)
+//!   is chosen.
+//! - Without it probe, health, pick and key go: 4. Left are merged, body, ready and retry, with the four blocks between
+//!   them. All score 1, and the lowest is chosen: merged (1).
+//! - Without it three wires and four blocks go, which is all: 7. Chosen are 1 and 4; freely went 4 + 4 + 7 = 15.
+//! - Merged has two entries and server three, so spiderizing them adds 5 nodes to 9, and two spiders for each to 8 edges.
+//!   The spiders have a port for each of the 5 entries and two for each of the 2 nodes: 19 + 5 + 4 = 28.
+//! - Server feeds probe and rewriter, so the path is not once-fed. Afterwards each fresh node joins one entry to one
+//!   spider, merged and server each join two spiders, and the other wires are as they were, fed and used once.
+
+use ohg::{Graph, NodeId, Refusal};
+
+const ARRIVED: NodeId = NodeId(0);
+const MERGED: NodeId = NodeId(1);
+const BODY: NodeId = NodeId(2);
+const KEY: NodeId = NodeId(3);
+const SERVER: NodeId = NodeId(4);
+const HEALTH: NodeId = NodeId(5);
+const READY: NodeId = NodeId(6);
+const LEAVING: NodeId = NodeId(7);
+const RETRY: NodeId = NodeId(8);
+
+/// The wires' names and, as labels, how many bits they carry at once; a wire's place is its id.
+const WIRES: [(&str, u32); 9] = [
+    ("arrived", 512),
+    ("merged", 512),
+    ("body", 512),
+    ("key", 104),
+    ("server", 16),
+    ("health", 1),
+    ("ready", 512),
+    ("leaving", 512),
+    ("retry", 512),
+];
+
+/// The blocks: kinds as labels, sources, targets.
+const BLOCKS: [(u32, &[NodeId], &[NodeId]); 8] = [
+    (1, &[], &[ARRIVED]),               // receive
+    (11, &[ARRIVED, RETRY], &[MERGED]), // joiner
+    (3, &[MERGED], &[BODY, KEY]),       // parser
+    (6, &[KEY, HEALTH], &[SERVER]),     // pick
+    (8, &[SERVER], &[HEALTH]),          // probe
+    (7, &[BODY, SERVER], &[READY]),     // rewriter
+    (10, &[READY], &[LEAVING, RETRY]),  // splitter
+    (2, &[LEAVING], &[]),               // transmit
+];
+
+fn show(name: &str, graph: &Graph) -> Result<(), Refusal> {
+    let sizes = graph.sizes();
+    let said = |yes| if yes { "yes" } else { "no" };
+    println!(
+        "{name}: {} wires, {} blocks, {} ports",
+        sizes.nodes, sizes.edges, sizes.ports
+    );
+    println!("  no loop: {}", said(graph.no_loop()?));
+    println!("  once fed: {}", said(graph.once_fed()?));
+    Ok(())
+}
+
+fn main() -> Result<(), Refusal> {
+    let mut path = Graph::discrete(&WIRES.map(|(_, bits)| bits))?;
+    for (kind, sources, targets) in BLOCKS {
+        path.new_edge(kind, sources, targets)?;
+    }
+    show("packet path", &path)?;
+
+    let choice = path.cycle_breaking_nodes()?;
+    println!(
+        "loop buffers: {} (removed freely: {})",
+        choice.nodes.len(),
+        choice.free
+    );
+    for node in &choice.nodes {
+        println!("  wire {}, {}", node.0, WIRES[node.0].0);
+    }
+
+    show("spiderized", &path.spiderize_nodes(&choice.nodes)?)
+}

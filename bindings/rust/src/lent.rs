@@ -1,0 +1,42 @@
+//! What calls are lent beside their arguments, and their answers taken apart.
+
+use crate::Refusal;
+use std::cell::RefCell;
+
+/// The most bytes that a stored form has: `OHG_FORM_BYTES`.
+const FORM_BYTES: usize = 49_167;
+
+/// The most work room that a function asks for: `OHG_ROOM_CYCLE_BREAKING_NODES`.
+const ROOM_BYTES: usize = 466_944;
+
+/// The most bytes of an answered list or map: 2 for each of the 2,048 nodes that a graph may have.
+pub const LIST_BYTES: usize = 4096;
+
+/// A buffer that holds any answered graph, and work room that is enough for any call.
+pub struct Lent {
+    pub form: Vec<u8>,
+    pub room: Vec<u8>,
+}
+
+thread_local! {
+    /// One for each thread, made at its first call and used again by all that follow. What it holds between calls means
+    /// nothing, so it is no part of a graph, and as a parameter it would only stand in every call; a thread's own needs
+    /// no lock. Calls do not nest, so it is never lent twice.
+    static LENT: RefCell<Lent> = RefCell::new(Lent {
+        form: vec![0; FORM_BYTES],
+        room: vec![0; ROOM_BYTES],
+    });
+}
+
+/// Runs a call with what this thread has to lend.
+pub fn with<T>(call: impl FnOnce(&mut Lent) -> T) -> T {
+    LENT.with_borrow_mut(call)
+}
+
+/// The two numbers of an answer, or the refusal.
+pub fn answered(packed: u64) -> Result<(usize, usize), Refusal> {
+    match (packed & 0xFF) as u8 {
+        0 => Ok(((packed >> 8 & 0xFF_FFFF) as usize, (packed >> 32) as usize)),
+        code => Err(Refusal::of(code)),
+    }
+}

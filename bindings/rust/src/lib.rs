@@ -1,0 +1,348 @@
+//! Open hypergraphs in a stored form, built, cut, checked and made explicit by `libohg.a`. Every function of that library
+//! is proved to give exactly the answer, or the refusal, of its definition.
+//!
+//! A [`Graph`] owns the stored bytes of a drawing. Its methods have the names of the Rust original, open-hypergraphs;
+//! where that panics, or takes an id that is not there, they refuse. Each names the [`Refusal`]s that it may give. A
+//! refused call changes nothing. Lists may have any length; what passes a limit is refused.
+//!
+//! ```
+//! use ohg::{Graph, NodeId, Refusal};
+//!
+//! # fn main() -> Result<(), Refusal> {
+//! let mut graph = Graph::empty();
+//! let wire = graph.new_node(64)?;
+//! graph.new_edge(9, &[wire], &[wire])?;
+//! assert!(!graph.no_loop()?);
+//!
+//! let choice = graph.cycle_breaking_nodes()?;
+//! assert_eq!(choice.nodes, [NodeId(0)]);
+//! assert!(graph.spiderize_nodes(&choice.nodes)?.no_loop()?);
+//! # Ok(())
+//! # }
+//! ```
+
+#![deny(unsafe_code)]
+#![warn(missing_docs)]
+
+#[allow(unsafe_code)]
+mod exported;
+mod lent;
+mod refusal;
+
+use exported::*;
+use lent::{answered, Lent, LIST_BYTES};
+pub use refusal::Refusal;
+use std::array;
+
+/// The edge label that says spider; every other value is an operation.
+pub const SPIDER: u32 = u32::MAX;
+
+/// What stands in the map of a deletion for a node that went.
+const GONE: usize = 65_535;
+
+/// A node's id. Ids count from 0.
+#[derive(Debug, Clone, Copy, PartialEq, Eq, PartialOrd, Ord, Hash)]
+pub struct NodeId(pub usize);
+
+/// An edge's id. Ids count from 0.
+#[derive(Debug, Clone, Copy, PartialEq, Eq, PartialOrd, Ord, Hash)]
+pub struct EdgeId(pub usize);
+
+/// The source nodes and the target nodes of an operation.
+pub type Interface = (Vec<NodeId>, Vec<NodeId>);
+
+/// How many there are of each part of a graph.
+#[derive(Debug, Clone, Copy, PartialEq, Eq, Hash)]
+pub struct Sizes {
+    /// Nodes, at most 2,048.
+    pub nodes: usize,
+    /// Edges, at most 2,048.
+    pub edges: usize,
+    /// Source and target entries of all edges, at most 8,192.
+    pub ports: usize,
+    /// Global source entries, at most 1,024.
+    pub sources: usize,
+    /// Global target entries, at most 1,024.
+    pub targets: usize,
+    /// Pending pairs, at most 1,024.
+    pub pairs: usize,
+}
+
+/// Nodes that every directed cycle passes through.
+#[derive(Debug, Clone, PartialEq, Eq)]
+pub struct Choice {
+    /// The chosen nodes, ascending; none exactly where there is no directed cycle.
+    pub nodes: Vec<NodeId>,
+    /// How many nodes and edges were removed freely, since nothing led to them or they led to nothing.
+    pub free: usize,
+}
+
+/// A drawing as its stored bytes, which are always a valid form. One graph has one form, so equal graphs have equal
+/// bytes.
+#[derive(Debug, Clone, PartialEq, Eq, Hash)]
+pub struct Graph {
+    form: Vec<u8>,
+}
+
+impl Graph {
+    /// The graph that these bytes store.
+    ///
+    /// Refused: [`NoHeader`](Refusal::NoHeader), [`NoMark`](Refusal::NoMark), [`OtherVersion`](Refusal::OtherVersion),
+    /// [`OverLimit`](Refusal::OverLimit), [`OtherLength`](Refusal::OtherLength), [`ForeignId`](Refusal::ForeignId).
+    pub fn from_bytes(bytes: impl Into<Vec<u8>>) -> Result<Graph, Refusal> {
+        let form = bytes.into();
+        read(&form)?;
+        Ok(Graph { form })
+    }
+
+    /// The graph with nothing in it.
+    pub fn empty() -> Graph {
+        let empty = Graph::made(|lent| ohg_empty(&mut lent.form));
+        empty.expect("the empty graph passes no limit")
+    }
+
+    /// Nodes of these labels and nothing else.
+    ///
+    /// Refused: [`ResultLimit`](Refusal::ResultLimit).
+    pub fn discrete(nodes: &[u32]) -> Result<Graph, Refusal> {
+        let nodes = labels(nodes);
+        Graph::made(|lent| ohg_discrete(&nodes, &mut lent.form))
+    }
+
+    /// Nodes of these labels, each a global source and a global target, in order.
+    ///
+    /// Refused: [`ResultLimit`](Refusal::ResultLimit).
+    pub fn identity(nodes: &[u32]) -> Result<Graph, Refusal> {
+        let nodes = labels(nodes);
+        Graph::made(|lent| ohg_identity(&nodes, &mut lent.form))
+    }
+
+    /// One edge alone, with a node for each of its source and target labels; its sources are the global sources, its
+    /// targets the global targets.
+    ///
+    /// Refused: [`ResultLimit`](Refusal::ResultLimit).
+    pub fn singleton(label: u32, sources: &[u32], targets: &[u32]) -> Result<Graph, Refusal> {
+        let (sources, targets) = (labels(sources), labels(targets));
+        Graph::made(|lent| ohg_singleton(label, &sources, &targets, &mut lent.form))
+    }
+
+    /// The stored form.
+    pub fn as_bytes(&self) -> &[u8] {
+        &self.form
+    }
+
+    /// How many there are of each part.
+    pub fn sizes(&self) -> Sizes {
+        read(&self.form).expect("a graph holds a valid form")
+    }
+
+    /// Adds a node.
+    ///
+    /// Refused: [`ResultLimit`](Refusal::ResultLimit).
+    pub fn new_node(&mut self, label: u32) -> Result<NodeId, Refusal> {
+        let node = self.replace(|form, lent| ohg_new_node(form, label, &mut lent.form))?;
+        Ok(NodeId(node))
+    }
+
+    /// Adds an edge between nodes that are there. Label [`SPIDER`] makes a spider.
+    ///
+    /// Refused: [`BadList`](Refusal::BadList), [`ResultLimit`](Refusal::ResultLimit).
+    pub fn new_edge(
+        &mut self,
+        label: u32,
+        sources: &[NodeId],
+        targets: &[NodeId],
+    ) -> Result<EdgeId, Refusal> {
+        let (sources, targets) = (node_ids(sources), node_ids(targets));
+        let edge = self
+            .replace(|form, lent| ohg_new_edge(form, label, &sources, &targets, &mut lent.form))?;
+        Ok(EdgeId(edge))
+    }
+
+    /// Adds a node for each source label, then one for each target label, then an edge between them.
+    ///
+    /// Refused: [`ResultLimit`](Refusal::ResultLimit).
+    pub fn new_operation(
+        &mut self,
+        label: u32,
+        sources: &[u32],
+        targets: &[u32],
+    ) -> Result<(EdgeId, Interface), Refusal> {
+        let first = self.sizes().nodes;
+        let middle = first + sources.len();
+        let end = middle + targets.len();
+        let (sources, targets) = (labels(sources), labels(targets));
+        let edge = self.replace(|form, lent| {
+            ohg_new_operation(form, label, &sources, &targets, &mut lent.form)
+        })?;
+        let interface = (
+            (first..middle).map(NodeId).collect(),
+            (middle..end).map(NodeId).collect(),
+        );
+        Ok((EdgeId(edge), interface))
+    }
+
+    /// Adds a pending pair of nodes. No labels are compared.
+    ///
+    /// Refused: [`BadList`](Refusal::BadList), [`ResultLimit`](Refusal::ResultLimit).
+    pub fn unify(&mut self, v: NodeId, w: NodeId) -> Result<(), Refusal> {
+        let (v, w) = (single(v.0), single(w.0));
+        self.replace(|form, lent| ohg_unify(form, v, w, &mut lent.form))?;
+        Ok(())
+    }
+
+    /// Adds a node at the end of an edge's sources.
+    ///
+    /// Refused: [`BadList`](Refusal::BadList), [`ResultLimit`](Refusal::ResultLimit).
+    pub fn add_edge_source(&mut self, edge: EdgeId, label: u32) -> Result<NodeId, Refusal> {
+        let edge = single(edge.0);
+        let node =
+            self.replace(|form, lent| ohg_add_edge_source(form, edge, label, &mut lent.form))?;
+        Ok(NodeId(node))
+    }
+
+    /// Adds a node at the end of an edge's targets.
+    ///
+    /// Refused: [`BadList`](Refusal::BadList), [`ResultLimit`](Refusal::ResultLimit).
+    pub fn add_edge_target(&mut self, edge: EdgeId, label: u32) -> Result<NodeId, Refusal> {
+        let edge = single(edge.0);
+        let node =
+            self.replace(|form, lent| ohg_add_edge_target(form, edge, label, &mut lent.form))?;
+        Ok(NodeId(node))
+    }
+
+    /// Deletes edges; the rest keep their order. Repeated ids count once.
+    ///
+    /// Refused: [`BadList`](Refusal::BadList).
+    pub fn delete_edges(&mut self, edges: &[EdgeId]) -> Result<(), Refusal> {
+        let ids = ids(edges.iter().map(|edge| edge.0));
+        self.replace(|form, lent| ohg_delete_edges(form, &ids, &mut lent.form, &mut lent.room))?;
+        Ok(())
+    }
+
+    /// Deletes nodes with every entry of them and each pair that one of them is in, and numbers the rest anew in order.
+    /// Answers where each old node went.
+    ///
+    /// Refused: [`BadList`](Refusal::BadList).
+    pub fn delete_nodes(&mut self, nodes: &[NodeId]) -> Result<Vec<Option<NodeId>>, Refusal> {
+        let ids = node_ids(nodes);
+        let mut map = [0; LIST_BYTES];
+        let entries = self.replace(|form, lent| {
+            ohg_delete_nodes(form, &ids, &mut lent.form, &mut map, &mut lent.room)
+        })?;
+        let kept = |entry| match number(entry) {
+            GONE => None,
+            id => Some(NodeId(id)),
+        };
+        Ok(map[..2 * entries].chunks_exact(2).map(kept).collect())
+    }
+
+    /// Chooses nodes that every directed cycle passes through: spiderizing them leaves none. They need not be the
+    /// fewest.
+    ///
+    /// Refused: [`PendingPair`](Refusal::PendingPair).
+    pub fn cycle_breaking_nodes(&self) -> Result<Choice, Refusal> {
+        let mut list = [0; LIST_BYTES];
+        let packed = lent::with(|l| ohg_cycle_breaking_nodes(&self.form, &mut list, &mut l.room));
+        let (count, free) = answered(packed)?;
+        let nodes = list[..2 * count]
+            .chunks_exact(2)
+            .map(|id| NodeId(number(id)));
+        let nodes = nodes.collect();
+        Ok(Choice { nodes, free })
+    }
+
+    /// The graph with the wiring of all nodes made explicit by spiders.
+    ///
+    /// Refused: [`PendingPair`](Refusal::PendingPair), [`ResultLimit`](Refusal::ResultLimit).
+    pub fn spiderize(&self) -> Result<Graph, Refusal> {
+        Graph::made(|lent| ohg_spiderize(&self.form, &mut lent.form, &mut lent.room))
+    }
+
+    /// The graph with the wiring of these nodes made explicit by spiders. Repeats and order have no effect.
+    ///
+    /// Refused: [`BadList`](Refusal::BadList), [`PendingPair`](Refusal::PendingPair),
+    /// [`ResultLimit`](Refusal::ResultLimit).
+    pub fn spiderize_nodes(&self, nodes: &[NodeId]) -> Result<Graph, Refusal> {
+        let ids = node_ids(nodes);
+        Graph::made(|lent| ohg_spiderize_nodes(&self.form, &ids, &mut lent.form, &mut lent.room))
+    }
+
+    /// Whether there is no directed cycle.
+    ///
+    /// Refused: [`PendingPair`](Refusal::PendingPair).
+    pub fn no_loop(&self) -> Result<bool, Refusal> {
+        let packed = lent::with(|lent| ohg_no_loop(&self.form, &mut lent.room));
+        Ok(answered(packed)?.0 == 1)
+    }
+
+    /// Whether each node occurs at most once among all edge targets and at most once among all edge sources.
+    ///
+    /// Refused: [`PendingPair`](Refusal::PendingPair).
+    pub fn once_fed(&self) -> Result<bool, Refusal> {
+        let packed = lent::with(|lent| ohg_once_fed(&self.form, &mut lent.room));
+        Ok(answered(packed)?.0 == 1)
+    }
+
+    /// The graph that a call answers.
+    fn made(call: impl FnOnce(&mut Lent) -> u64) -> Result<Graph, Refusal> {
+        lent::with(|lent| {
+            let (bytes, _) = answered(call(lent))?;
+            let form = lent.form[..bytes].to_vec();
+            Ok(Graph { form })
+        })
+    }
+
+    /// Becomes the graph that a call on this one answers, and gives the number answered beside it.
+    fn replace(&mut self, call: impl FnOnce(&[u8], &mut Lent) -> u64) -> Result<usize, Refusal> {
+        lent::with(|lent| {
+            let (bytes, beside) = answered(call(&self.form, lent))?;
+            lent.form[..bytes].clone_into(&mut self.form);
+            Ok(beside)
+        })
+    }
+}
+
+/// The sizes of the graph that these bytes store.
+fn read(form: &[u8]) -> Result<Sizes, Refusal> {
+    let mut sizes = [0; 24];
+    answered(ohg_read(form, &mut sizes))?;
+    let [nodes, edges, ports, sources, targets, pairs] =
+        array::from_fn(|i| number(&sizes[4 * i..][..4]));
+    Ok(Sizes {
+        nodes,
+        edges,
+        ports,
+        sources,
+        targets,
+        pairs,
+    })
+}
+
+/// The number that these bytes store.
+fn number(bytes: &[u8]) -> usize {
+    let higher = |n, &byte| n << 8 | usize::from(byte);
+    bytes.iter().rev().fold(0, higher)
+}
+
+/// A list of labels as a call takes it.
+fn labels(list: &[u32]) -> Vec<u8> {
+    list.iter().flat_map(|label| label.to_le_bytes()).collect()
+}
+
+/// A list of ids as a call takes it, 2 bytes each. No graph has 65,535 nodes or edges, so an id that does not fit is
+/// refused as that one is.
+fn ids(list: impl Iterator<Item = usize>) -> Vec<u8> {
+    let narrow = |id| u16::try_from(id).unwrap_or(u16::MAX);
+    list.flat_map(|id| narrow(id).to_le_bytes()).collect()
+}
+
+/// A list of node ids as a call takes it.
+fn node_ids(list: &[NodeId]) -> Vec<u8> {
+    ids(list.iter().map(|node| node.0))
+}
+
+/// A single id as a call takes it; one that does not fit is refused as the highest is.
+fn single(id: usize) -> u32 {
+    u32::try_from(id).unwrap_or(u32::MAX)
+}

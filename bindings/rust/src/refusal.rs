@@ -1,0 +1,89 @@
+use std::error::Error;
+use std::fmt;
+
+/// Why a call was refused. The numbers are those of `ohg.h`; where several hold, `docs/INTERFACE.md` says which is given.
+#[derive(Debug, Clone, Copy, PartialEq, Eq, Hash)]
+#[non_exhaustive]
+pub enum Refusal {
+    /// Fewer than 15 bytes.
+    NoHeader = 1,
+    /// The first three bytes are not `OHG`.
+    NoMark = 2,
+    /// The version is not 1.
+    OtherVersion = 3,
+    /// A count in the header, or the sum of the ports, is above its limit.
+    OverLimit = 4,
+    /// The length is not what the counts call for.
+    OtherLength = 5,
+    /// A stored node id is not below the node count.
+    ForeignId = 6,
+    /// An id in the call is not below its count.
+    BadList = 7,
+    /// The graph has a pending pair, and the operation needs none.
+    PendingPair = 8,
+    /// The result would pass a limit.
+    ResultLimit = 9,
+    /// A buffer or work room was too short. This crate lends enough for the library that it belongs to.
+    ShortBuffer = 10,
+}
+
+impl Refusal {
+    const ALL: [Refusal; 10] = [
+        Refusal::NoHeader,
+        Refusal::NoMark,
+        Refusal::OtherVersion,
+        Refusal::OverLimit,
+        Refusal::OtherLength,
+        Refusal::ForeignId,
+        Refusal::BadList,
+        Refusal::PendingPair,
+        Refusal::ResultLimit,
+        Refusal::ShortBuffer,
+    ];
+
+    /// The refusal's number, 1 to 10.
+    pub fn number(self) -> u8 {
+        self as u8
+    }
+
+    /// The refusal of a number.
+    pub(crate) fn of(number: u8) -> Refusal {
+        let known = Refusal::ALL.into_iter().find(|r| r.number() == number);
+        known.expect("libohg.a refuses by no other number")
+    }
+}
+
+impl fmt::Display for Refusal {
+    /// The number, what was wrong, and what to do.
+    fn fmt(&self, f: &mut fmt::Formatter<'_>) -> fmt::Result {
+        let text = match self {
+            Refusal::NoHeader => "fewer than 15 bytes; check that this is a stored form, and whole",
+            Refusal::NoMark => {
+                "the first three bytes are not `OHG`; check that this is a stored form"
+            }
+            Refusal::OtherVersion => {
+                "the version is not 1; use the library of the newer tool that wrote it"
+            }
+            Refusal::OverLimit => "a count is above its limit; split the drawing",
+            Refusal::OtherLength => {
+                "the length is not what the counts call for; get the file again, whole"
+            }
+            Refusal::ForeignId => {
+                "a stored node id is not below the node count; get the file again, undamaged"
+            }
+            Refusal::BadList => {
+                "an id in the call is not below its count; check the list against the graph's sizes"
+            }
+            Refusal::PendingPair => {
+                "the graph has a pending pair; draw joined nodes as one, or delete one of each pair"
+            }
+            Refusal::ResultLimit => "the result would pass a limit; split the drawing",
+            Refusal::ShortBuffer => {
+                "a buffer or work room is too short; link the libohg.a that belongs to this crate"
+            }
+        };
+        write!(f, "{}: {text}", self.number())
+    }
+}
+
+impl Error for Refusal {}

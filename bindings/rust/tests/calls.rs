@@ -1,0 +1,239 @@
+//! Every call, on document 01's drawings P1 to P9 and on what it is to refuse.
+
+use ohg::{Choice, EdgeId, Graph, NodeId, Refusal, Sizes, SPIDER};
+use std::thread;
+
+fn nodes(ids: &[usize]) -> Vec<NodeId> {
+    ids.iter().copied().map(NodeId).collect()
+}
+
+/// Nodes of label 7, and edges as their labels, sources and targets.
+fn drawn(count: usize, edges: &[(u32, &[usize], &[usize])]) -> Graph {
+    let mut graph = Graph::discrete(&vec![7; count]).unwrap();
+    for (i, &(label, sources, targets)) in edges.iter().enumerate() {
+        let edge = graph.new_edge(label, &nodes(sources), &nodes(targets));
+        assert_eq!(edge, Ok(EdgeId(i)));
+    }
+    graph
+}
+
+fn p2() -> Graph {
+    drawn(1, &[(9, &[0], &[0])])
+}
+
+fn p6() -> Graph {
+    drawn(2, &[(9, &[0], &[1]), (10, &[1], &[0])])
+}
+
+fn p7() -> Graph {
+    drawn(3, &[(9, &[0], &[0, 1, 1]), (10, &[1, 1, 2], &[2])])
+}
+
+/// A form of these numbers, each 2 bytes, after the mark and the version.
+fn stored(numbers: &[u16]) -> Vec<u8> {
+    let numbers = numbers.iter().flat_map(|n| n.to_le_bytes());
+    b"OHG\x01\0".iter().copied().chain(numbers).collect()
+}
+
+fn chosen(ids: &[usize], free: usize) -> Result<Choice, Refusal> {
+    let nodes = nodes(ids);
+    Ok(Choice { nodes, free })
+}
+
+#[test]
+fn the_stored_form_of_p7_is_the_one_in_document_01() {
+    let bytes = stored(&[
+        3, 2, 0, 0, 0, // counts
+        7, 0, 7, 0, 7, 0, 9, 0, 10, 0, // labels
+        1, 3, 0, 0, 1, 1, // 0>0 1 1
+        3, 1, 1, 1, 2, 2, // 1 1 2>2
+    ]);
+    assert_eq!(bytes.len(), 59);
+    assert_eq!(p7().as_bytes(), bytes);
+    assert_eq!(Graph::from_bytes(bytes), Ok(p7()));
+    let sizes = Sizes {
+        nodes: 3,
+        edges: 2,
+        ports: 8,
+        sources: 0,
+        targets: 0,
+        pairs: 0,
+    };
+    assert_eq!(p7().sizes(), sizes);
+}
+
+#[test]
+fn building_starts_from_nothing_from_nodes_or_from_an_edge() {
+    assert_eq!(Graph::empty().as_bytes(), stored(&[0, 0, 0, 0, 0]));
+    let identity = stored(&[2, 0, 2, 2, 0, 5, 0, 6, 0, 0, 1, 0, 1]);
+    assert_eq!(Graph::identity(&[5, 6]).unwrap().as_bytes(), identity);
+    let singleton = stored(&[
+        3, 1, 2, 1, 0, 5, 0, 6, 0, 8, 0, 4, 0, 2, 1, 0, 1, 2, 0, 1, 2,
+    ]);
+    let made = Graph::singleton(4, &[5, 6], &[8]).unwrap();
+    assert_eq!(made.as_bytes(), singleton);
+}
+
+#[test]
+fn building_numbers_nodes_and_edges_on() {
+    let mut graph = p2();
+    assert_eq!(graph.new_node(7), Ok(NodeId(1)));
+    let operation = graph.new_operation(4, &[7, 7], &[7]);
+    assert_eq!(operation, Ok((EdgeId(1), (nodes(&[2, 3]), nodes(&[4])))));
+    assert_eq!(graph.add_edge_source(EdgeId(0), 7), Ok(NodeId(5)));
+    assert_eq!(graph.add_edge_target(EdgeId(1), 7), Ok(NodeId(6)));
+    assert_eq!(
+        graph,
+        drawn(7, &[(9, &[0, 5], &[0]), (4, &[2, 3], &[4, 6])])
+    );
+}
+
+#[test]
+fn deleting_keeps_the_rest_in_order_and_says_where_it_went() {
+    let mut graph = p7();
+    graph.unify(NodeId(0), NodeId(1)).unwrap();
+    graph.unify(NodeId(2), NodeId(0)).unwrap();
+    let map = graph.delete_nodes(&nodes(&[1, 1]));
+    assert_eq!(map, Ok(vec![Some(NodeId(0)), None, Some(NodeId(1))]));
+    let mut p8 = drawn(2, &[(9, &[0], &[0]), (10, &[1], &[1])]);
+    p8.unify(NodeId(1), NodeId(0)).unwrap();
+    assert_eq!(graph, p8);
+
+    let mut graph = p6();
+    assert_eq!(graph.delete_edges(&[EdgeId(0), EdgeId(0)]), Ok(()));
+    assert_eq!(graph, drawn(2, &[(10, &[1], &[0])]));
+}
+
+#[test]
+fn the_choice_meets_every_loop() {
+    assert_eq!(Graph::empty().cycle_breaking_nodes(), chosen(&[], 0));
+    assert_eq!(p2().cycle_breaking_nodes(), chosen(&[0], 1));
+    let p4 = Graph::identity(&[7]).unwrap();
+    assert_eq!(p4.cycle_breaking_nodes(), chosen(&[], 1));
+    assert_eq!(p6().cycle_breaking_nodes(), chosen(&[0], 3));
+    assert_eq!(p7().cycle_breaking_nodes(), chosen(&[0, 1, 2], 2));
+}
+
+#[test]
+fn the_checks_say_yes_and_no() {
+    assert_eq!(Graph::empty().no_loop(), Ok(true));
+    assert_eq!(p6().no_loop(), Ok(false));
+    assert_eq!(p6().once_fed(), Ok(true));
+    assert_eq!(p7().once_fed(), Ok(false));
+}
+
+#[test]
+fn spiderizing_makes_wiring_explicit() {
+    let p3 = drawn(
+        3,
+        &[
+            (9, &[1], &[2]),
+            (SPIDER, &[], &[0, 1]),
+            (SPIDER, &[0, 2], &[]),
+        ],
+    );
+    assert_eq!(p2().spiderize_nodes(&nodes(&[0, 0])), Ok(p3.clone()));
+    assert_eq!(p2().spiderize(), Ok(p3));
+    assert_eq!(p2().spiderize_nodes(&[]), Ok(p2()));
+
+    let p5 = Graph::identity(&[7]).unwrap().spiderize().unwrap();
+    let spider = u16::MAX;
+    let form = stored(&[
+        3, 2, 1, 1, 0, // counts
+        7, 0, 7, 0, 7, 0, spider, spider, spider, spider, // labels
+        1, 1, 1, 0, 1, 1, 0, 2, // 1>0, 0>2
+        1, 2, // global lists
+    ]);
+    assert_eq!(p5.as_bytes(), form);
+}
+
+#[test]
+fn broken_bytes_are_refused() {
+    let header = stored(&[1, 0, 1, 0, 0, 7, 0]);
+    let refused = |bytes: &[u8]| Graph::from_bytes(bytes).unwrap_err();
+    assert_eq!(refused(&header[..14]), Refusal::NoHeader);
+    assert_eq!(refused(&[0; 15]), Refusal::NoMark);
+    assert_eq!(
+        refused(b"OHG\x02\0\0\0\0\0\0\0\0\0\0\0"),
+        Refusal::OtherVersion
+    );
+    assert_eq!(refused(&stored(&[2049, 0, 0, 0, 0])), Refusal::OverLimit);
+    assert_eq!(refused(&header), Refusal::OtherLength);
+    let foreign = stored(&[1, 0, 1, 0, 0, 7, 0, 1]);
+    assert_eq!(refused(&foreign), Refusal::ForeignId);
+}
+
+#[test]
+fn ids_that_are_not_there_are_refused_and_never_cut_to_size() {
+    let mut graph = p6();
+    for id in [2, 65_535, 65_536, 1 << 32] {
+        let (node, edge) = (NodeId(id), EdgeId(id));
+        assert_eq!(graph.new_edge(9, &[node], &[]), Err(Refusal::BadList));
+        assert_eq!(graph.new_edge(9, &[], &[node]), Err(Refusal::BadList));
+        assert_eq!(graph.unify(node, NodeId(0)), Err(Refusal::BadList));
+        assert_eq!(graph.unify(NodeId(0), node), Err(Refusal::BadList));
+        assert_eq!(graph.add_edge_source(edge, 7), Err(Refusal::BadList));
+        assert_eq!(graph.add_edge_target(edge, 7), Err(Refusal::BadList));
+        assert_eq!(graph.delete_edges(&[edge]), Err(Refusal::BadList));
+        assert_eq!(graph.delete_nodes(&[node]), Err(Refusal::BadList));
+        assert_eq!(graph.spiderize_nodes(&[node]), Err(Refusal::BadList));
+    }
+    assert_eq!(graph, p6());
+}
+
+#[test]
+fn a_pending_pair_is_refused_where_none_may_be() {
+    let mut p9 = p6();
+    p9.unify(NodeId(0), NodeId(1)).unwrap();
+    assert_eq!(p9.sizes().pairs, 1);
+    assert_eq!(p9.cycle_breaking_nodes(), Err(Refusal::PendingPair));
+    assert_eq!(p9.spiderize(), Err(Refusal::PendingPair));
+    assert_eq!(p9.spiderize_nodes(&[]), Err(Refusal::PendingPair));
+    assert_eq!(p9.no_loop(), Err(Refusal::PendingPair));
+    assert_eq!(p9.once_fed(), Err(Refusal::PendingPair));
+}
+
+#[test]
+fn results_past_a_limit_are_refused() {
+    assert_eq!(Graph::discrete(&[7; 2049]), Err(Refusal::ResultLimit));
+    assert_eq!(Graph::identity(&[7; 1025]), Err(Refusal::ResultLimit));
+    let full = Graph::discrete(&[7; 2048]).unwrap();
+    let mut graph = full.clone();
+    assert_eq!(graph.new_node(7), Err(Refusal::ResultLimit));
+    let operation = graph.new_operation(9, &[7], &[]);
+    assert_eq!(operation, Err(Refusal::ResultLimit));
+    assert_eq!(graph, full);
+    let long = p2().new_edge(9, &vec![NodeId(0); 70_000], &[]);
+    assert_eq!(long, Err(Refusal::ResultLimit));
+    let edges = Graph::singleton(9, &[7; 1024], &[7; 1024]).unwrap();
+    assert_eq!(edges.spiderize(), Err(Refusal::ResultLimit));
+}
+
+#[test]
+fn the_largest_form_fits() {
+    let mut numbers = vec![2048, 2048, 1024, 1024, 1024];
+    numbers.extend([7; 2 * (2048 + 2048)]); // labels
+    numbers.extend([2, 2, 0, 1, 2, 3].repeat(2048)); // 8,192 ports
+    numbers.extend([2047; 1024 + 1024 + 2 * 1024]); // global lists and pairs
+    let bytes = stored(&numbers);
+    assert_eq!(bytes.len(), 49_167);
+    let mut graph = Graph::from_bytes(bytes.clone()).unwrap();
+    assert_eq!(graph.delete_edges(&[]), Ok(()));
+    assert_eq!(graph.delete_nodes(&[]).unwrap().len(), 2048);
+    assert_eq!(graph.as_bytes(), bytes);
+}
+
+#[test]
+fn threads_do_not_share_what_they_lend() {
+    let calls = || (0..100).all(|_| p7().cycle_breaking_nodes() == chosen(&[0, 1, 2], 2));
+    let threads: Vec<_> = (0..4).map(|_| thread::spawn(calls)).collect();
+    assert!(threads.into_iter().all(|t| t.join().unwrap()));
+}
+
+#[test]
+fn a_refusal_says_its_number_and_what_to_do() {
+    let text =
+        "7: an id in the call is not below its count; check the list against the graph's sizes";
+    assert_eq!(Refusal::BadList.to_string(), text);
+    assert_eq!(Refusal::BadList.number(), 7);
+}
