@@ -9,14 +9,14 @@ use native.Mathlib.Omega.{arith}
 use lib.ListN.{length, getD, take, drop}
 use lib.Seq.{split-at, take-all}
 use Rattle.checks.specs.Fed.{Fed, Twice, Feeding, FedBoth}
-use Rattle.checks.specs.Stored.{graphOf, Whole, sourcesAt, targetsAt, edgeEnd}
+use Rattle.form.specs.Stored.{graphOf, Whole, sourcesAt, targetsAt, edgeEnd}
 use Rattle.form.specs.Form.{edgesAt}
 use Rattle.form.specs.declared.Sizes.{Sizes}
 use Rattle.graph.specs.Checks.{onceFed}
 use Rattle.graph.specs.Graph.{Edge, edgeSources, edgeTargets}
 use Rattle.graph.proofs.Laws.{joined-append}
 use Rattle.checks.proofs.Fed.{twice-later, is-once-fed, not-once-fed}
-use Rattle.checks.proofs.Walk.{At, Here, start, here, none, edges-more, edge-count, node-count}
+use Rattle.form.proofs.Walk.{At, Here, start, here, none, edges-more, edge-count, node-count}
 
 -- the table after the first i edges
 pub record Sofar (b old table : List ℕ) (nodes i at : ℕ) : Type 0 where

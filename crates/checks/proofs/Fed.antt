@@ -19,7 +19,7 @@ use Rattle.graph.specs.Lists.{all, occurrences, range}
 use Rattle.le.specs.Le.{numberAt, numbers}
 use Rattle.form.proofs.Reach.{numbers-append}
 use Rattle.le.proofs.Places.{numbers-next}
-use Rattle.le.proofs.Tables.{fill-table, getD-sets}
+use Rattle.le.proofs.Tables.{getD-sets}
 
 -- ---- occurrences
 
@@ -243,7 +243,3 @@ fed-cleared old table nodes l e = record {
       rw e (ap (λ (i : ℕ). getD (sets old 0 (replicate nodes 0)) i 0) (sym (zero-add id)) ∙ getD-sets old 0 (replicate nodes 0) id (omega arith) (omega arith) ∙ getD-replicate nodes id 0 0 k);
   once = λ id k. (omega arith, omega arith);
 }
-
--- a table filled from the front
-pub fill-front : (d : List ℕ) (k v : ℕ) → set (sets d 0 (replicate k v)) k v ≡ sets d 0 (replicate (k + 1) v)
-fill-front d k v = ap (λ (i : ℕ). set (sets d 0 (replicate k v)) i v) (sym (zero-add k)) ∙ fill-table d 0 k v

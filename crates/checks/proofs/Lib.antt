@@ -1,4 +1,3 @@
-pub mod Walk
 pub mod Fed
 pub mod Edges
 pub mod Calls

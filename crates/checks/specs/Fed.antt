@@ -8,7 +8,7 @@ use mathlib.Core.List.{List, [], _++_}
 use lib.Dec.{eqb}
 use lib.ListN.{length, getD}
 use Rattle.graph.specs.Lists.{occurrences}
-use Rattle.graph.specs.Graph.{Graph, edgeSources, edgeTargets}
+use Rattle.graph.specs.Graph.{Graph}
 use Rattle.graph.specs.Checks.{onceFed}
 
 -- a way to feed a node: 1 as a source of an edge, 2 as a target

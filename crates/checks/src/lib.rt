@@ -1,8 +1,6 @@
 // The checks of document 01 that need no search: once-fed.
 ghost use mathlib.Core.Path.{_≡_};
-ghost use mathlib.Core.Logic.{_⊎_};
 ghost use mathlib.Core.Bool.{cond, not};
-ghost use mathlib.Core.List.{List};
 ghost use Prim.Native.Nat.{_+_, _*_, _/_, _%_, _<_, _≤_};
 ghost use lib.Dec.{eqb};
 ghost use lib.ListN.{length, getD, set, drop, replicate};
@@ -11,8 +9,8 @@ ghost use Rattle.le.specs.Le.{Below, numbers};
 ghost use Rattle.graph.specs.Graph.{form1};
 ghost use Rattle.graph.specs.Calls.{inWorkRoom, onceFedCall};
 ghost use Rattle.form.specs.Form.{checked};
-ghost use Rattle.checks.specs.Stored.{graphOf, Whole, sourcesAt, targetsAt, edgeEnd, EdgeAt};
-ghost use Rattle.checks.specs.Fed.{Fed, Way, grown, Feeds, Feeding, FedEdges};
+ghost use Rattle.form.specs.Stored.{graphOf, Whole, sourcesAt, targetsAt, edgeEnd, EdgeAt};
+ghost use Rattle.checks.specs.Fed.{Way, Feeds, Feeding, FedEdges};
 use form::Checked;
 use form::Reading;
 use form::Refusal;

@@ -18,7 +18,7 @@ use Rattle.choice.proofs.Sets.{gone, howMany-sum, has-lt, without-subse
 unfoldable pub between : List Arc → ℕ → ℕ → ℕ
 between arcs u v = howMany (λ a. eqb (a .to) v && eqb (a .from) u) arcs
 
-is-true : (b : Bool) → T b → b ≡ true
+pub is-true : (b : Bool) → T b → b ≡ true
 is-true true s = refl
 is-true false s = absurd s
 

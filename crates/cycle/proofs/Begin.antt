@@ -20,8 +20,9 @@ use Rattle.graph.specs.Build.{empty}
 use Rattle.graph.specs.Form.{encode}
 use Rattle.graph.specs.Graph.{Graph, form1, WellFormed}
 use Rattle.graph.specs.Read.{read}
-use Rattle.incidence.specs.Listed.{Drawn, Built, graphOf}
-use Rattle.incidence.specs.Tables.{part, zip, arcsIn, Outside, indegrees, outdegrees, inLists, outLists}
+use Rattle.form.specs.Stored.{graphOf}
+use Rattle.incidence.specs.Listed.{Drawn, Built}
+use Rattle.incidence.specs.Tables.{part, zip, arcsIn, indegrees, outdegrees, inLists, outLists}
 use Rattle.removal.specs.Engine.{Kept, live, actives, picks, candidatesAt, insOf, outsOf, Held, Seeded, Fixed, State, Peeled}
 use Rattle.choice.proofs.Core.{peels-core, peels-taken}
 use Rattle.choice.proofs.Cycles.{Bounded}
@@ -30,11 +31,13 @@ use Rattle.choice.proofs.Fits.{proper-bounded}
 use Rattle.choice.proofs.Sets.{size-vertices}
 use Rattle.form.proofs.Whole.{Stored}
 use Rattle.incidence.proofs.Listing.{few-edges}
-use Rattle.incidence.proofs.Parts.{part-length, part-at, part-sets, outside-sets}
+use Rattle.incidence.proofs.Parts.{part-length, part-at, part-sets}
 use Rattle.removal.proofs.Frames.{kept-trans, kept-less, kept-outside, live-same}
 use Rattle.removal.proofs.Lowering.{ends-length}
 use Rattle.removal.proofs.Peeling.{state-here}
 use Rattle.removal.proofs.Removing.{fixed-kept}
+use Rattle.le.specs.Le.{Outside}
+use Rattle.le.proofs.Frames.{outside-sets}
 
 -- bytes that were read are a drawing's
 pub drawn : {b : List ℕ} {z : Sizes} → Stored b z → Drawn b (z .nodes) (z .edges)

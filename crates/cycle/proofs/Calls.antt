@@ -22,7 +22,7 @@ use Rattle.graph.specs.Answer.{Answer, refused, answered, lay, laid, _else_, _>
 use Rattle.graph.specs.Calls.{unpaired, fit, inWorkRoom}
 use Rattle.graph.specs.Graph.{Graph, form1}
 use Rattle.graph.specs.Read.{read}
-use Rattle.incidence.specs.Listed.{graphOf}
+use Rattle.form.specs.Stored.{graphOf}
 use Rattle.le.specs.Le.{row}
 use Rattle.choice.proofs.Graphs.{chosen-and-free-are-all}
 use Rattle.form.proofs.Whole.{Stored}

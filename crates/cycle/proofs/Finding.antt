@@ -7,31 +7,29 @@ use mathlib.Core.Path.{_≡_, refl, sym, ap, _∙_, subst}
 use Prim.Native.Nat.{ℕ, _+_, _-_, _*_, _≤_, _<_}
 use native.Mathlib.Nat.{lt-irrefl, not-suc-le-zero}
 use native.Mathlib.Omega.{arith}
-use lib.Dec.{T, eqb, ltb, lt→ltb, ltb→lt}
+use lib.Dec.{T, eqb, lt→ltb, ltb→lt}
 use lib.ListN.{length, getD, set}
 use lib.Seq.{getD-set-other, getD-set-same}
 use borrow.Author.Tests.{eq-eqb, eqb-true}
-use Rattle.choice.specs.Arcs.{Arc, In, Set, has, without, out, Stable}
+use Rattle.choice.specs.Arcs.{Arc, In, Set, has, without, Stable}
 use Rattle.choice.specs.Choice.{Best, score}
 use Rattle.cycle.specs.Choosing.{among, agreed, Some, Found, Chose}
-use Rattle.incidence.specs.Tables.{part, arcsIn, Outside, indegrees, outdegrees}
+use Rattle.incidence.specs.Tables.{part, arcsIn, indegrees, outdegrees}
 use Rattle.queue.specs.Queue as q
 use Rattle.queue.specs.Queue.{Holds, Popped, Before, higher, tied}
 use Rattle.queue.specs.declared.Candidate.{Candidate}
 use Rattle.removal.specs.Engine.{Kept, live, actives, picks, candidatesAt, waitList, insOf, outsOf, entry, entryOf, Held, Fixed, State, Removable, Removed}
-use Rattle.choice.proofs.Degrees.{Counted, inner, marked}
+use Rattle.choice.proofs.Degrees.{Counted, inner, marked, is-true}
 use Rattle.choice.proofs.Sets.{and-left, and-right, without-subset, gone}
-use Rattle.incidence.proofs.Parts.{part-ext, outside-set}
-use Rattle.removal.proofs.Frames.{kept-none, kept-trans, kept-less, kept-set, kept-queue, kept-outside, kept-part, live-at, live-low, live-same}
+use Rattle.incidence.proofs.Parts.{part-ext}
+use Rattle.removal.proofs.Frames.{kept-none, kept-trans, kept-less, kept-set, kept-outside, kept-part, live-at, live-low, live-same}
 use Rattle.removal.proofs.Peeling.{ins-are, outs-are, state-stable}
 use Rattle.removal.proofs.Removing.{fixed-kept}
 use Rattle.removal.proofs.Work.{held-same}
+use Rattle.le.specs.Le.{Outside}
+use Rattle.le.proofs.Frames.{outside-set}
 
 -- ---- whether an entry agrees
-
-is-true : (b : Bool) → T b → b ≡ true
-is-true true t = refl
-is-true false t = absurd t
 
 to-true : {b : Bool} → b ≡ true → T b
 to-true {b} e = subst T (sym e) tt
@@ -98,7 +96,7 @@ module _ (arcs : List Arc) (n m selectable : ℕ) (W X : List ℕ) (left : ℕ) 
 
   module _ (Y : List ℕ) (c : Candidate) (p : Popped X Y candidatesAt left c) where
     same : Kept candidatesAt X Y
-    same = kept-queue candidatesAt (omega arith) (p .frame)
+    same = kept-outside candidatesAt (omega arith) (p .frame)
 
     sound : (c ≡ entry (c .id) (c .indegree) (c .outdegree)) × (c .id < selectable)
     sound = s .state .held .sound c (p .was)

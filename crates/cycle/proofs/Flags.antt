@@ -16,8 +16,9 @@ use Rattle.choice.specs.Arcs.{In}
 use Rattle.choice.specs.Choice.{Above, Ascends}
 use Rattle.choice.specs.Drawing.{chosen}
 use Rattle.cycle.specs.Choosing.{ChosenIn, shown, flaggedBelow}
-use Rattle.incidence.specs.Listed.{Drawn, graphOf}
-use Rattle.le.specs.Le.{row, bytes}
+use Rattle.form.specs.Stored.{graphOf}
+use Rattle.incidence.specs.Listed.{Drawn}
+use Rattle.le.specs.Le.{row}
 use Rattle.removal.specs.Engine.{picks}
 use Rattle.choice.proofs.Ascending.{ascends-ext}
 use Rattle.choice.proofs.Graphs.{chosen-ascends, chosen-are-nodes}

@@ -8,15 +8,16 @@ use Prim.Native.Nat.{ℕ, suc, _+_, _-_, _≤_, _<_}
 use native.Mathlib.Decide.{ℕ-discrete}
 use native.Mathlib.Nat.{add-zero}
 use native.Mathlib.Omega.{arith}
-use lib.Dec.{ltb, ltb→lt}
+use lib.Dec.{ltb→lt}
 use lib.ListN.{length, getD, replicate, length-replicate, getD-replicate}
 use lib.Seq.{sets}
-use Rattle.choice.specs.Arcs.{Arc, In, Set, vertices, size}
+use Rattle.choice.specs.Arcs.{Arc, In, Set, size}
 use Rattle.choice.specs.Choice.{Peels, rest, peel, taken, Chosen, choice}
 use Rattle.choice.specs.Drawing.{arcs, selectable, chosen}
 use Rattle.cycle.specs.Choosing.{among, Begun, Some, Chose, Ready, Ended, ChosenIn}
-use Rattle.incidence.specs.Listed.{Drawn, graphOf}
-use Rattle.incidence.specs.Tables.{arcsIn, Outside}
+use Rattle.form.specs.Stored.{graphOf}
+use Rattle.incidence.specs.Listed.{Drawn}
+use Rattle.incidence.specs.Tables.{arcsIn}
 use Rattle.removal.specs.Engine.{Kept, live, actives, picks, State, Peeled}
 use Rattle.choice.proofs.Core.{peels-taken}
 use Rattle.choice.proofs.Fits.{proper-offers}
@@ -25,11 +26,12 @@ use Rattle.choice.proofs.Invariant.{Told, told-start, told-loose, told-best, to
 use Rattle.choice.proofs.Sets.{size-empty, size-some, size-vertices, size-without}
 use Rattle.choice.proofs.Stages.{Offers}
 use Rattle.incidence.proofs.Listing.{few-edges}
-use Rattle.incidence.proofs.Parts.{outside-sets}
 use Rattle.le.proofs.Tables.{getD-sets}
 use Rattle.removal.proofs.Frames.{kept-none, kept-trans, kept-less}
 use Rattle.removal.proofs.Peeling.{state-stable, state-here}
 use Rattle.cycle.proofs.Finding.{state-flag, live-flag}
+use Rattle.le.specs.Le.{Outside}
+use Rattle.le.proofs.Frames.{outside-sets}
 
 -- loose vertices are removed, one at a time: each is counted
 told-peels : (arcs : List Arc) (may : ℕ → Bool) (n : ℕ) → Offers arcs may → {S U : Set} (p : Peels arcs S U) (picked : List ℕ) (free : ℕ)

@@ -4,15 +4,15 @@ use mathlib.Core.Path.{_≡_}
 use mathlib.Core.Bool.{Bool, _&&_, not, cond}
 use mathlib.Core.Logic.{_↔_}
 use mathlib.Core.List.{List, [], _∷_, _++_}
-use Prim.Native.Nat.{ℕ, zero, suc, _+_, _≤_, _<_}
+use Prim.Native.Nat.{ℕ, zero, suc, _+_, _<_}
 use lib.Dec.{T, eqb, ltb}
 use lib.ListN.{length, getD}
-use Rattle.choice.specs.Arcs.{Arc, In, Set, has, without, vertices}
+use Rattle.choice.specs.Arcs.{Arc, In, has, without, vertices}
 use Rattle.choice.specs.Choice.{Best, choice}
 use Rattle.choice.proofs.Stages.{Offers}
 use Rattle.choice.specs.Drawing.{arcs, chosen}
 use Rattle.incidence.specs.Tables.{arcsIn}
-use Rattle.incidence.specs.Listed.{graphOf}
+use Rattle.form.specs.Stored.{graphOf}
 use Rattle.queue.specs.declared.Candidate.{Candidate}
 use Rattle.removal.specs.Engine.{Kept, live, picks, actives, candidatesAt, insOf, outsOf, State, Removable}
 

@@ -1,8 +1,8 @@
 // The choice of cycle-breaking nodes and the no-loop check, over the incidence graph of a stored drawing in a lent room.
 ghost use mathlib.Core.Path.{_≡_};
-ghost use mathlib.Core.List.{List, [], _∷_};
-ghost use Prim.Native.Nat.{ℕ, _+_, _*_, _<_, _≤_};
-ghost use lib.ListN.{length, getD};
+ghost use mathlib.Core.List.{_∷_};
+ghost use Prim.Native.Nat.{_+_, _*_, _<_, _≤_};
+ghost use lib.ListN.{length};
 ghost use lib.Seq.{sets};
 ghost use Rattle.le.specs.Le.{words, row};
 ghost use Rattle.graph.specs.Graph.{form1};
@@ -11,7 +11,8 @@ ghost use Rattle.graph.specs.Calls.{inWorkRoom};
 ghost use Rattle.choice.specs.Drawing.{noLoop};
 ghost use Rattle.choice.specs.Calls.{noLoopCall, cycleBreakingNodesCall};
 ghost use Rattle.incidence.specs.Tables.{arcsIn};
-ghost use Rattle.incidence.specs.Listed.{Drawn, graphOf};
+ghost use Rattle.form.specs.Stored.{graphOf};
+ghost use Rattle.incidence.specs.Listed.{Drawn};
 ghost use Rattle.removal.specs.Engine.{Room, State};
 ghost use Rattle.form.specs.Form.{checked};
 ghost use Rattle.cycle.specs.Answers.{cut};

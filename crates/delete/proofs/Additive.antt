@@ -17,6 +17,7 @@ use Rattle.le.specs.Le.{row}
 use Rattle.graph.proofs.Laws.{joined-append}
 use Rattle.le.proofs.Numbers.{row-append}
 use Rattle.delete.proofs.Writing.{put-then, put-as}
+use Rattle.graph.proofs.Lists.{flat-append}
 
 -- of two lists one after the other: what it makes of the first, and then what it makes of the second
 pub record Additive {A B : Type 0} (f : List A → List B) : Type 0 where
@@ -61,10 +62,6 @@ keep-append {A} test (x ∷ xs) ys = pick (test x) (keep-append test xs ys)
         → cond c (x ∷ keep test (xs ++ ys)) (keep test (xs ++ ys)) ≡ cond c (x ∷ keep test xs) (keep test xs) ++ keep test ys
     pick true k = ap (λ (r : List A). x ∷ r) k
     pick false k = k
-
-flat-append : (ps qs : List (ℕ × ℕ)) → flat (ps ++ qs) ≡ flat ps ++ flat qs
-flat-append [] qs = refl
-flat-append (p ∷ ps) qs = ap (λ (r : List ℕ). p .0 ∷ p .1 ∷ r) (flat-append ps qs)
 
 module _ (goes : ℕ → Bool) where
   pub staying-additive : Additive (staying goes)

@@ -11,3 +11,4 @@ pub mod EdgesMoved
 pub mod Agree
 pub mod NodesGone
 pub mod NodesCall
+pub mod Limits

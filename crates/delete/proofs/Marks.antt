@@ -3,8 +3,7 @@
 use mathlib.Core.Bool.{Bool, true, false, not, _||_, or-assoc}
 use mathlib.Core.List.{List, [], _∷_, _++_}
 use mathlib.Core.Path.{_≡_, refl, sym, ap, _∙_}
-use Prim.Native.Nat.{ℕ, zero, suc, _+_, _*_, _<_}
-use native.Mathlib.Nat.{not-suc-le-zero, le-of-suc-le-suc}
+use Prim.Native.Nat.{ℕ, _+_, _*_, _<_}
 use native.Mathlib.Numerals.{add-one}
 use native.Mathlib.Omega.{arith}
 use lib.Dec.{eqb}
@@ -13,7 +12,7 @@ use lib.Seq.{getD-set-same, getD-set-other}
 use borrow.Author.Tests.{eqb-true, eqb-false, eq-eqb, ne-eqb}
 use Rattle.delete.specs.Marks.{marked}
 use Rattle.graph.specs.Lists.{member, among}
-use Rattle.le.specs.Le.{Below, numbers, numberAt}
+use Rattle.le.specs.Le.{numbers, numberAt}
 use Rattle.le.proofs.Places.{numbers-next}
 
 -- a mark is a byte that is not 0
@@ -28,12 +27,6 @@ is-marked room i h = ap not (ne-eqb (getD room i 0) 0 h)
 pub marked-same : (a b : List ℕ) (i : ℕ) → getD b i 0 ≡ getD a i 0 → marked b i ≡ marked a i
 unfolding marked
 marked-same a b i e = ap (λ (v : ℕ). not (eqb v 0)) e
-
--- an entry of a list whose entries are below a bound
-pub below-at : (n : ℕ) (xs : List ℕ) (k : ℕ) → Below n xs → k < length xs → getD xs k 0 < n
-below-at n [] k h l = absurd (not-suc-le-zero l)
-below-at n (x ∷ xs) zero h l = h .0
-below-at n (x ∷ xs) (suc k) h l = below-at n xs k (h .1) (le-of-suc-le-suc l)
 
 -- one mark more taken away
 pub cleared-more : (room : List ℕ) (k : ℕ) → k < length room → ((i : ℕ) → i < k → getD room i 0 ≡ 0) → (i : ℕ) → i < k + 1 → getD (set room k 0) i 0 ≡ 0

@@ -18,11 +18,11 @@ use Rattle.le.specs.Le.{Below, bytes, row, numbers, numberAt}
 use Rattle.form.proofs.Sections.{stored-more}
 use Rattle.graph.proofs.Kept.{new-id-le}
 use Rattle.graph.proofs.ReadWrite.{flat-paired}
-use Rattle.le.proofs.Numbers.{below-each, length-numbers, length-row, row-append, number-at}
+use Rattle.le.proofs.Numbers.{below-each, length-numbers, length-row, row-append, number-at, below-at}
 use Rattle.le.proofs.Places.{getD-numbers, number-drop}
 use Rattle.le.proofs.Stores.{sets-front}
 use Rattle.delete.proofs.Additive.{map-additive}
-use Rattle.delete.proofs.Marks.{below-at}
+use Rattle.graph.proofs.Lists.{length-range, range-add}
 
 -- ---- an entry by the marks
 
@@ -90,22 +90,12 @@ module _ (table : List ℕ) (a b v w : ℕ) (is-v : v ≡ numberAt 2 table (a * 
 
 -- ---- the map, entry by entry
 
-range-next : (from k : ℕ) → range from (suc k) ≡ range from k ++ ((from + k) ∷ [])
-range-next from zero = ap (λ (n : ℕ). n ∷ []) (sym (add-zero from))
-range-next from (suc k) =
-    let q : suc from + k ≡ from + suc k = omega arith in
-    ap (λ (r : List ℕ). from ∷ r) (range-next (suc from) k ∙ ap (λ (n : ℕ). range (suc from) k ++ (n ∷ [])) q)
-
-length-range : (from k : ℕ) → length (range from k) ≡ k
-length-range from zero = refl
-length-range from (suc k) = ap suc (length-range (suc from) k)
-
 pub length-places : (goes : ℕ → Bool) (n : ℕ) → length (placesOf goes n) ≡ n
 length-places goes n = length-map (range 0 n) (whereTo form1 goes) ∙ length-range 0 n
 
 places-next : (goes : ℕ → Bool) (i : ℕ) → placesOf goes (i + 1) ≡ placesOf goes i ++ (whereTo form1 goes i ∷ [])
 places-next goes i =
-    ap (λ (n : ℕ). placesOf goes n) (add-one i) ∙ ap (map (whereTo form1 goes)) (range-next 0 i ∙ ap (λ (n : ℕ). range 0 i ++ (n ∷ [])) (zero-add i))
+    ap (map (whereTo form1 goes)) (range-add 0 i 1 ∙ ap (λ (n : ℕ). range 0 i ++ (n ∷ [])) (zero-add i))
     ∙ map-additive (whereTo form1 goes) .append (range 0 i) (i ∷ [])
 
 pub new-id-next : (goes : ℕ → Bool) (i next more : ℕ) → next ≡ newId goes i → more ≡ next + cond (goes i) 0 1 → more ≡ newId goes (i + 1)

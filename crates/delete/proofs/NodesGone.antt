@@ -93,10 +93,10 @@ module _ (goes : ℕ → Bool) where
   nodes-are : (labels : List ℕ) → newId goes (length labels) ≡ length (remaining goes 0 labels)
   nodes-are labels = ap (newId goes) (sym (zero-add (length labels))) ∙ sym (length-remaining goes 0 labels) ∙ zero-add (length (remaining goes 0 labels))
 
-  carried-length : (xs : List ℕ) → length (staying goes xs) ≡ length (carried goes (newId goes) xs)
+  pub carried-length : (xs : List ℕ) → length (staying goes xs) ≡ length (carried goes (newId goes) xs)
   carried-length xs = sym (length-map (staying goes xs) (newId goes))
 
-  ports-are : (es : List Edge) → length (staying goes (edgeEntries es)) ≡ length (edgeEntries (map (renamedEdge goes) es))
+  pub ports-are : (es : List Edge) → length (staying goes (edgeEntries es)) ≡ length (edgeEntries (map (renamedEdge goes) es))
   ports-are [] = refl
   ports-are (e ∷ es) =
       let entries = e .sources ++ e .targets in

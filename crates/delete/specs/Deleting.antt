@@ -1,6 +1,6 @@
 -- What deleting nodes answers: for each of its values the definition's answer.
 -- Assumes nothing.
-use Prim.Native.Nat.{ℕ, _/_}
+use Prim.Native.Nat.{_/_}
 use lib.ListN.{length}
 use Rattle.graph.specs.Answer.{Answer, refused, answered}
 use Rattle.graph.specs.Calls.{Deleted}

@@ -1,7 +1,7 @@
 -- What the work room and the map say of ids, and what is left by them. A byte of the room stands for each id, and in the map 2 bytes for each old node.
 -- Assumes nothing.
 use Prim.Native.Nat.{ℕ, _*_}
-use mathlib.Core.List.{List, [], _∷_, map}
+use mathlib.Core.List.{List, _∷_, map}
 use mathlib.Core.Bool.{Bool, not, _&&_}
 use lib.ListN.{length, getD}
 use lib.Dec.{eqb}

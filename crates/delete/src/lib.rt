@@ -16,7 +16,7 @@ ghost use Rattle.graph.specs.Delete.{remaining, newId, whereTo, withoutNodes};
 ghost use Rattle.graph.specs.Calls.{inWorkRoom, onGraph, deleteEdgesStep, deleteNodesCall};
 ghost use Rattle.form.specs.Form.{sizesOf, reading, written};
 ghost use Rattle.form.specs.declared.Reading.the-variants as read;
-ghost use Rattle.delete.specs.Marks.{roomDeleteEdges, roomDeleteNodes, marked, staying, stayingPairs, leftOf, unmarkedEdges, place, dropped, moved, movedEdge, movedEdges, movedPairs, placesOf};
+ghost use Rattle.delete.specs.Marks.{roomDeleteEdges, roomDeleteNodes, marked, staying, stayingPairs, leftOf, unmarkedEdges, place, moved, movedEdge, movedEdges, movedPairs, placesOf};
 ghost use Rattle.delete.specs.Writes.{edgeAt, EdgesAt, Put};
 ghost use Rattle.delete.specs.Deleting.{deleting};
 
@@ -522,9 +522,9 @@ pub fn delete_nodes(
     };
     mark(room, z.nodes, ids, n);
     let y = without_nodes(src, z, room);
-    let fit = form::result_size(y, out.len());
-    let form::Fit::Bytes(bytes) = fit else {
-        return Deleting::Refused(fit.refusal());
+    let size = form::result_size(y, out.len());
+    let form::Fit::Bytes(bytes) = size else {
+        return Deleting::Refused(size.refusal());
     };
     if map.len() < z.nodes * 2 {
         return Deleting::Refused(form::Refusal { no: 10 });

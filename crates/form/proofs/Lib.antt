@@ -4,3 +4,4 @@ pub mod Edge
 pub mod Whole
 pub mod Calls
 pub mod Sections
+pub mod Walk

@@ -1,7 +1,7 @@
 -- What the types of this crate stand for: for each of their values the definition's answer.
 -- Assumes nothing.
 use Prim.Native.Nat.{ℕ, _+_, _*_, _-_, max}
-use mathlib.Core.List.{List, [], _∷_, _++_}
+use mathlib.Core.List.{List, _∷_, _++_}
 use lib.ListN.{length}
 use mathlib.Core.Bool.{Bool, cond, _&&_}
 use lib.Dec.{leb}

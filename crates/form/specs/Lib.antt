@@ -1,2 +1,3 @@
 pub mod Reach
 pub mod Form
+pub mod Stored

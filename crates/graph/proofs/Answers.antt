@@ -2,8 +2,8 @@
 -- Assumes nothing.
 use mathlib.Core.Bool.{Bool, true, false, cond, and-eq-true-iff}
 use mathlib.Core.List.{List, [], _∷_, _++_, map, append-nil}
-use mathlib.Core.Path.{_≡_, refl, sym, ap, _∙_, subst}
-use Prim.Native.Nat.{ℕ, zero, suc, _^_, _-_, _≤_, _<_, _/_}
+use mathlib.Core.Path.{_≡_, sym, ap, _∙_, subst}
+use Prim.Native.Nat.{ℕ, _^_, _-_, _≤_, _<_, _/_}
 use native.Mathlib.Omega.{arith}
 use lib.Dec.{leb}
 use lib.ListN.{length, length-map}
@@ -18,7 +18,7 @@ use Rattle.graph.specs.Read.{read}
 use Rattle.le.specs.Le.{Below, numbers, row}
 use Rattle.le.proofs.Numbers.{numbers-below, numbers-row}
 use Rattle.graph.proofs.Kept.{below-range, new-id-le, empty-proper, discrete-proper, identity-proper, singleton-proper, new-node-proper, new-edge-proper, new-operation-proper, unify-proper, add-source-proper, add-target-proper, delete-edges-proper, delete-nodes-proper}
-use Rattle.graph.proofs.Lists.{below-true}
+use Rattle.graph.proofs.Lists.{below-true, length-range}
 use Rattle.graph.proofs.ReadWrite.{fits-within, read-sound}
 use Rattle.graph.proofs.Spiders.{spiderize-proper}
 use Rattle.graph.proofs.Steps.{same-answer, passed, came}
@@ -254,10 +254,6 @@ map-answer f room gone g bytes l p =
       fits = subst (λ (k : List ℕ). length k ≤ room) e (leb-true _ _ (p₁ .0));
       back = subst (λ (k : List ℕ). numbers (f .width) n k ≡ m) (append-nil (row (f .width) m) ∙ e) (subst (λ k. numbers (f .width) k (row (f .width) m ++ []) ≡ m) long back);
     }
-  where
-    length-range : (from k : ℕ) → length (range from k) ≡ k
-    length-range from zero = refl
-    length-range from (suc k) = ap suc (length-range (suc from) k)
 
 pub delete-nodes-answer : (f : Format) → Usable f → (b gone : List ℕ) (room mapRoom : ℕ) (d : Deleted) → Below 256 b
     → deleteNodesCall f b gone room mapRoom ≡ answered d

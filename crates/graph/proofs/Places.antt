@@ -7,7 +7,7 @@ use native.Mathlib.Omega.{arith}
 use lib.ListN.{length, getD, take, drop, length-append, length-drop}
 use lib.Seq.{split-at, sets}
 use Rattle.graph.specs.Answer.{lay}
-use Rattle.graph.specs.Form.{mark, header, edgeBytes, sections, encode}
+use Rattle.graph.specs.Form.{mark, edgeBytes, sections, encode}
 use Rattle.graph.specs.Graph.{Edge, Graph, Format, Usable, WellFormed}
 use Rattle.graph.specs.Lists.{joined}
 use Rattle.le.specs.Le.{bytes, numberAt}

@@ -1,6 +1,6 @@
 -- The forms of the graphs that are built, as they are written part by part, and their sizes.
 -- Assumes nothing.
-use mathlib.Core.List.{List, [], _∷_, _++_, map, append-assoc, append-nil}
+use mathlib.Core.List.{List, [], _∷_, _++_, map, append-assoc, append-nil, map-append}
 use mathlib.Core.Path.{_≡_, refl, sym, ap, _∙_}
 use Prim.Native.Nat.{ℕ, _+_, _*_, _-_, _/_}
 use native.Mathlib.Omega.{arith}
@@ -14,11 +14,10 @@ use Rattle.graph.specs.Lists.{flat, joined, range}
 use Rattle.le.specs.Le.{bytes, row}
 use Rattle.form.proofs.Sections.{labelsOn, sourcesOn, encode-sections, stored-sections}
 use Rattle.form.proofs.Whole.{Stored}
-use Rattle.graph.proofs.Kept.{map-append}
 use Rattle.graph.proofs.Laws.{joined-append}
 use Rattle.le.proofs.Numbers.{row-append}
 use Rattle.hypergraph.proofs.Parts.{part-rest}
-use Rattle.hypergraph.proofs.Ranges.{length-range, range-add}
+use Rattle.graph.proofs.Lists.{flat-append, length-range, range-add}
 
 -- the sizes of a graph with these counts
 abbrev pub sizes : ℕ → ℕ → ℕ → ℕ → ℕ → ℕ → Sizes
@@ -29,17 +28,13 @@ pub headed : (g : Graph) (y : Sizes) (body : List ℕ) → sizesOf g ≡ y → b
 headed g y body e p =
     ap (λ (k : Sizes). header form1 (countsOf k) ++ body) (sym e) ∙ ap (λ (l : List ℕ). header form1 (counts g) ++ l) p ∙ sym (encode-sections g)
 
-flat-append : (ps qs : List (ℕ × ℕ)) → flat (ps ++ qs) ≡ flat ps ++ flat qs
-flat-append [] qs = refl
-flat-append (p ∷ ps) qs = ap (λ (l : List ℕ). p .0 ∷ p .1 ∷ l) (flat-append ps qs)
-
 -- the sections of edges with one more edge at the end
 edges-more : (es : List Edge) (e : Edge) (rest : List ℕ)
     → row 4 (map (λ (e : Edge). e .label) (es ++ (e ∷ []))) ++ (joined (edgeBytes form1) (es ++ (e ∷ [])) ++ rest)
     ≡ (row 4 (map (λ (e : Edge). e .label) es) ++ (bytes 4 (e .label) ++ joined (edgeBytes form1) es)) ++ (edgeBytes form1 e ++ rest)
 edges-more es e rest =
     let names = map (λ (e : Edge). e .label) es in
-    rw (map-append es (e ∷ []), row-append 4 names (e .label ∷ []), joined-append (edgeBytes form1) es (e ∷ []), append-nil (edgeBytes form1 e))
+    rw (map-append (λ (e : Edge). e .label) es (e ∷ []), row-append 4 names (e .label ∷ []), joined-append (edgeBytes form1) es (e ∷ []), append-nil (edgeBytes form1 e))
     (simp append-assoc)
 
 -- the bytes of an edge, from the bytes of its two lists

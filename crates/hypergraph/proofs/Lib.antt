@@ -4,4 +4,3 @@ pub mod Listed
 pub mod Ends
 pub mod Forms
 pub mod Calls
-pub mod Corollaries

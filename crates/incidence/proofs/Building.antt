@@ -13,15 +13,16 @@ use lib.ListN.{length, getD, set, replicate, length-set, length-replicate, getD-
 use lib.Seq.{sets, length-sets, getD-set-same, getD-set-other}
 use Rattle.choice.specs.Arcs.{howMany}
 use Rattle.incidence.specs.Listed.{Appended, Low, times, under, Counts, sumTo, LaidOut, endsOf, Empties, Filled, Grouped}
-use Rattle.incidence.specs.Tables.{part, ends, Outside}
-use Rattle.le.specs.Le.{numbers, numberAt}
+use Rattle.incidence.specs.Tables.{part, ends}
+use Rattle.le.specs.Le.{numbers, numberAt, Outside}
 use Rattle.choice.proofs.Degrees.{howMany-length}
 use Rattle.le.proofs.Numbers.{length-numbers}
 use Rattle.le.proofs.Places.{numbers-next}
 use Rattle.le.proofs.Stores.{sets-snoc}
 use Rattle.le.proofs.Tables.{getD-sets}
 use Rattle.incidence.proofs.Ends.{howMany-append, times-here, times-other, under-apart, under-length, sum-times, sum-le, ends-here, ends-other}
-use Rattle.incidence.proofs.Parts.{part-length, part-ext, part-snoc, part-add, outside-none, outside-trans, outside-set, outside-sets, part-outside, part-sets}
+use Rattle.incidence.proofs.Parts.{part-length, part-ext, part-snoc, part-add, part-outside, part-sets}
+use Rattle.le.proofs.Frames.{outside-none, outside-trans, outside-set, outside-sets}
 
 -- one id more
 pub ids-more : (W : List ℕ) (off k : ℕ) (d : List ℕ) (id : ℕ) → id ≡ numberAt 2 d (k * 2)

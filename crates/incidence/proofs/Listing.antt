@@ -1,6 +1,6 @@
 -- The arcs of a stored graph are listed edge by edge: what stands listed after some edges, and the places that the next edge is read at.
 -- Assumes nothing.
-use mathlib.Core.List.{List, [], _∷_, _++_, map, append-assoc, append-nil}
+use mathlib.Core.List.{List, [], _∷_, _++_, map, append-assoc, append-nil, map-append, map-id, map-map}
 use mathlib.Core.Path.{_≡_, refl, sym, ap, _∙_, subst}
 use Prim.Native.Nat.{ℕ, suc, _+_, _-_, _*_, _≤_, _<_}
 use native.Mathlib.Nat.{add-zero}
@@ -13,7 +13,8 @@ use Rattle.choice.specs.Drawing.{edgeArcs, arcsFrom, arcs}
 use Rattle.graph.specs.Form.{edgeBytes, encode, sections}
 use Rattle.graph.specs.Graph.{Edge, edgeEntries, form1, ports}
 use Rattle.graph.specs.Lists.{joined}
-use Rattle.incidence.specs.Listed.{graphOf, Drawn, Appended, AllListed}
+use Rattle.form.specs.Stored.{graphOf}
+use Rattle.incidence.specs.Listed.{Drawn, Appended, AllListed}
 use Rattle.incidence.specs.Tables.{part, zip, arcsIn}
 use Rattle.le.specs.Le.{Below, row, bytes, numbers, number, numberAt}
 use Rattle.graph.proofs.Laws.{section-at, length-encode}
@@ -22,18 +23,6 @@ use Rattle.incidence.proofs.Ends.{zip-map}
 use Rattle.incidence.proofs.Parts.{part-length}
 
 -- ---- lists
-
-map-append : {A B : Type 0} (f : A → B) (xs ys : List A) → map f (xs ++ ys) ≡ map f xs ++ map f ys
-map-append f [] ys = refl
-map-append f (x ∷ xs) ys = ap (λ l. f x ∷ l) (map-append f xs ys)
-
-map-id : (xs : List ℕ) → map (λ x. x) xs ≡ xs
-map-id [] = refl
-map-id (x ∷ xs) = ap (λ (l : List ℕ). x ∷ l) (map-id xs)
-
-map-map : {A B C : Type 0} (f : B → C) (h : A → B) (xs : List A) → map f (map h xs) ≡ map (λ x. f (h x)) xs
-map-map f h [] = refl
-map-map f h (x ∷ xs) = ap (λ l. f (h x) ∷ l) (map-map f h xs)
 
 map-same : {A : Type 0} (e : ℕ) (xs : List A) → map (λ x. e) xs ≡ replicate (length xs) e
 map-same e [] = refl

@@ -1,14 +1,15 @@
--- Parts of the room's words, and what is the same outside of a range.
+-- Parts of the room's words.
 -- Assumes nothing.
 use mathlib.Core.List.{List, [], _∷_, _++_, append-assoc}
 use mathlib.Core.Logic.{_⊎_, inl, inr, ⊎-elim}
 use mathlib.Core.Path.{_≡_, refl, sym, ap, _∙_}
-use Prim.Native.Nat.{ℕ, suc, _+_, _≤_, _<_}
+use Prim.Native.Nat.{ℕ, _+_, _≤_, _<_}
 use native.Mathlib.Numerals.{add-one}
 use native.Mathlib.Omega.{arith}
-use lib.ListN.{length, getD, take, drop, set, length-take, length-drop, length-set}
-use lib.Seq.{sets, getD-take, getD-drop, ext-getD, take-suc, drop-set-add, take-set-lt, getD-set-other, drop-drop, take-add, sets-eq, length-take-le, take-at, drop-at}
-use Rattle.incidence.specs.Tables.{part, Outside}
+use lib.ListN.{length, getD, take, drop, set, length-take, length-drop}
+use lib.Seq.{sets, getD-take, getD-drop, ext-getD, take-suc, drop-set-add, take-set-lt, drop-drop, take-add, sets-eq, length-take-le, take-at, drop-at}
+use Rattle.le.specs.Le.{Outside}
+use Rattle.incidence.specs.Tables.{part}
 
 pub part-length : (W : List ℕ) (off n : ℕ) → off + n ≤ length W → length (part W off n) ≡ n
 unfolding part
@@ -42,25 +43,7 @@ pub part-add : (W : List ℕ) (off k n : ℕ) → part W off (k + n) ≡ part W 
 unfolding part
 part-add W off k n = take-add k n (drop off W) ∙ ap (λ (l : List ℕ). take k (drop off W) ++ take n l) (drop-drop k off W)
 
--- ---- the same outside of a range
-
-pub outside-none : (lo hi : ℕ) (W : List ℕ) → Outside lo hi W W
-outside-none lo hi W = record { long = refl; same = λ i a. refl }
-
-pub outside-trans : {lo hi : ℕ} {W X Y : List ℕ} → Outside lo hi W X → Outside lo hi X Y → Outside lo hi W Y
-outside-trans o p = record { long = p .long ∙ o .long; same = λ i a. p .same i a ∙ o .same i a }
-
-pub outside-set : (lo hi : ℕ) (W : List ℕ) (i v : ℕ) → lo ≤ i → i < hi → Outside lo hi W (set W i v)
-outside-set lo hi W i v l h = record {
-  long = length-set W i v;
-  same = λ j a. getD-set-other W i j v 0 (⊎-elim (λ s e. omega arith) (λ s e. omega arith) a);
-}
-
-pub outside-sets : (lo hi : ℕ) (W : List ℕ) (off : ℕ) (l : List ℕ) → lo ≤ off → off + length l ≤ hi → Outside lo hi W (sets W off l)
-outside-sets lo hi W off [] a b = outside-none lo hi W
-outside-sets lo hi W off (x ∷ l) a b =
-    outside-trans (outside-set lo hi W off x a (omega arith)) (outside-sets lo hi (set W off x) (suc off) l (omega arith) (omega arith))
-
+-- a part outside of what changed
 pub part-outside : {lo hi : ℕ} {W X : List ℕ} (off n : ℕ) → Outside lo hi W X → off + n ≤ length W → (off + n ≤ lo) ⊎ (hi ≤ off)
     → part X off n ≡ part W off n
 part-outside {lo} {hi} {W} {X} off n o h a =

@@ -8,8 +8,9 @@ use native.Mathlib.Nat.{not-suc-le-zero, le-of-suc-le-suc, suc-inj, suc-ne-zero}
 use native.Mathlib.Omega.{arith}
 use lib.ListN.{length, getD}
 use Rattle.choice.specs.Arcs.{Arc, arc, In}
-use Rattle.choice.specs.Drawing.{arcs, vertexCount}
-use Rattle.incidence.specs.Listed.{graphOf, Drawn, AllListed, Low, Grouped, Built, times, endsOf}
+use Rattle.choice.specs.Drawing.{vertexCount}
+use Rattle.form.specs.Stored.{graphOf}
+use Rattle.incidence.specs.Listed.{Drawn, AllListed, Low, Grouped, Built, times, endsOf}
 use Rattle.incidence.specs.Tables.{part, zip, arcsIn, ends, Incidence, Degrees}
 use Rattle.choice.proofs.Cycles.{Bounded}
 use Rattle.choice.proofs.Degrees.{outgoing, incoming}

@@ -2,22 +2,17 @@
 -- Assumes nothing.
 use mathlib.Core.Path.{_≡_}
 use mathlib.Core.Bool.{cond}
-use mathlib.Core.List.{List, [], _∷_, _++_, map}
+use mathlib.Core.List.{List, [], _∷_, _++_}
 use Prim.Native.Nat.{ℕ, zero, suc, _+_, _≤_, _<_}
 use lib.Dec.{eqb, ltb}
 use lib.ListN.{length, getD, replicate}
-use Rattle.graph.specs.Graph.{Graph, WellFormed, form1, ports}
+use Rattle.graph.specs.Graph.{WellFormed, form1, ports}
 use Rattle.graph.specs.Form.{encode}
-use Rattle.graph.specs.Answer.{reply}
-use Rattle.graph.specs.Read.{read}
-use Rattle.graph.specs.Build.{empty}
-use Rattle.choice.specs.Arcs.{Arc, In, howMany}
+use Rattle.form.specs.Stored.{graphOf}
+use Rattle.choice.specs.Arcs.{howMany}
 use Rattle.choice.specs.Drawing.{arcs}
-use Rattle.incidence.specs.Tables.{part, arcsIn, ends, Outside, Apart, Incidence, Degrees}
-
--- the graph that bytes are the form of
-unfoldable pub graphOf : List ℕ → Graph
-graphOf b = reply empty (λ g. g) (read form1 b)
+use Rattle.incidence.specs.Tables.{part, arcsIn, ends, Incidence, Degrees}
+use Rattle.le.specs.Le.{Outside, Apart}
 
 -- bytes that are the form of a graph with so many nodes and edges
 pub record Drawn (b : List ℕ) (nodes edges : ℕ) : Type 0 where

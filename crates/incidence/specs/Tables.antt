@@ -1,13 +1,10 @@
 -- Where the tables of a drawing stand in a lent room, in words, and what is read from them.
 -- Assumes nothing.
 use mathlib.Core.Path.{_≡_}
-use mathlib.Core.Bool.{cond}
-use mathlib.Core.Logic.{_⊎_}
 use mathlib.Core.List.{List, [], _∷_}
-use Prim.Native.Nat.{ℕ, zero, suc, _+_, _≤_, _<_}
-use lib.Dec.{eqb}
+use Prim.Native.Nat.{ℕ, _+_, _≤_, _<_}
 use lib.ListN.{length, getD, take, drop}
-use Rattle.choice.specs.Arcs.{Arc, arc, In}
+use Rattle.choice.specs.Arcs.{Arc, arc}
 use Rattle.choice.proofs.Degrees.{outgoing, incoming}
 
 -- where each arc comes from, and where it leads to
@@ -48,15 +45,6 @@ arcsIn W m = zip (part W froms m) (part W tos m)
 -- the list of v, by its start and its length
 unfoldable pub ends : List ℕ → ℕ → ℕ → List ℕ
 ends W lists v = part W (lists + 8192 + getD W (lists + v) 0) (getD W (lists + 4096 + v) 0)
-
--- i is not one of the places from lo to hi
-abbrev pub Apart : ℕ → ℕ → ℕ → Type 0
-Apart lo hi i = (i < lo) ⊎ (hi ≤ i)
-
--- X is as long as W, and the same but for the places from lo to hi
-pub record Outside (lo hi : ℕ) (W X : List ℕ) : Type 0 where
-  pub long : length X ≡ length W
-  pub same : (i : ℕ) → Apart lo hi i → getD X i 0 ≡ getD W i 0
 
 -- the lists of n vertices are those of the arcs, and none passes its table
 pub record Incidence (arcs : List Arc) (n : ℕ) (W : List ℕ) : Type 0 where

@@ -9,8 +9,8 @@ use native.Mathlib.Numerals.{add-one, add-two, add-three}
 use native.Mathlib.Omega.{arith}
 use lib.ListN.{length, getD, set, take, drop, length-drop}
 use lib.Seq.{drop-cons, drop-drop, sets, sets-eq, length-sets, take-at, drop-at, length-take-le}
-use Rattle.le.specs.Le.{bytes, number, numberAt, numbers, words}
-use Rattle.le.proofs.Numbers.{length-bytes, number-bytes, length-numbers}
+use Rattle.le.specs.Le.{Below, bytes, number, numberAt, numbers, words}
+use Rattle.le.proofs.Numbers.{below-at, length-bytes, number-bytes, length-numbers}
 use Rattle.le.proofs.Stores.{take-sets-le, drop-sets-add, drop-sets-lt}
 
 -- ---- a number, byte by byte
@@ -81,6 +81,10 @@ pub getD-numbers : (w n : ℕ) (b : List ℕ) (k : ℕ) → k < n → getD (numb
 getD-numbers w zero b k h = absurd (not-suc-le-zero h)
 getD-numbers w (suc n) b zero h = rw zero-mul
 getD-numbers w (suc n) b (suc k) h = rw (suc-mul, add-comm, ← drop-drop (k * w) w b) (getD-numbers w n (drop w b) k (le-of-suc-le-suc h))
+
+-- a number that was read from a row below a bound
+pub read-below : (bound w n : ℕ) (b : List ℕ) → Below bound (numbers w n b) → (k : ℕ) → k < n → (v : ℕ) → v ≡ numberAt w b (k * w) → v < bound
+read-below bound w n b h k l v e = subst (λ (x : ℕ). x < bound) (getD-numbers w n b k l ∙ sym e) (below-at bound (numbers w n b) k h (rw length-numbers l))
 
 -- one number more
 pub numbers-next : (w n : ℕ) (b : List ℕ) → numbers w (suc n) b ≡ numbers w n b ++ (numberAt w b (n * w) ∷ [])

@@ -2,7 +2,7 @@
 use mathlib.Core.List.{List, [], _∷_, _++_, append-assoc}
 use mathlib.Core.Path.{_≡_, refl, sym, ap, _∙_}
 use Prim.Native.Nat.{ℕ, zero, suc, _+_, _-_, _≤_, _<_}
-use native.Mathlib.Nat.{add-sub-of-le, add-zero, not-suc-le-zero, le-of-suc-le-suc}
+use native.Mathlib.Nat.{add-sub-of-le, zero-add, add-zero, not-suc-le-zero, le-of-suc-le-suc}
 use native.Mathlib.Omega.{arith}
 use lib.ListN.{length, getD, take, drop, set, replicate, length-replicate, replicate-append-replicate, List·getD-append}
 use lib.Seq.{sets, sets-eq, set-set, set-comm, getD-append-add, length-take-le, getD-set-other, drop-set-add, take-set-le}
@@ -45,6 +45,9 @@ pub fill-table : (W : List ℕ) (off k v : ℕ) → set (sets W off (replicate k
 fill-table W off k v =
     ap (λ (n : ℕ). set (sets W off (replicate k v)) (off + n) v) (sym (length-replicate k v))
     ∙ sets-snoc W off (replicate k v) v ∙ ap (sets W off) (replicate-append-replicate k 1 v)
+
+pub fill-front : (d : List ℕ) (k v : ℕ) → set (sets d 0 (replicate k v)) k v ≡ sets d 0 (replicate (k + 1) v)
+fill-front d k v = ap (λ (i : ℕ). set (sets d 0 (replicate k v)) i v) (sym (zero-add k)) ∙ fill-table d 0 k v
 
 -- a read before the table
 pub getD-sets-before : (W : List ℕ) (at : ℕ) (l : List ℕ) (j : ℕ) → j < at → getD (sets W at l) j 0 ≡ getD W j 0

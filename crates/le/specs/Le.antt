@@ -3,8 +3,8 @@
 use mathlib.Core.Path.{_≡_}
 use mathlib.Core.Logic.{_⊎_}
 use mathlib.Core.List.{List, [], _∷_, _++_}
-use Prim.Native.Nat.{ℕ, zero, suc, _+_, _*_, _/_, _%_, _<_}
-use lib.ListN.{length, take, drop}
+use Prim.Native.Nat.{ℕ, zero, suc, _+_, _*_, _/_, _%_, _<_, _≤_}
+use lib.ListN.{length, getD, take, drop}
 
 -- the widths that numbers have in lent bytes
 abbrev pub Width : ℕ → Type 0
@@ -42,3 +42,12 @@ numbers w (suc n) b = number (take w b) ∷ numbers w n (drop w b)
 -- the work room as numbers of 4 bytes
 unfoldable pub words : List ℕ → List ℕ
 words room = numbers 4 (length room / 4) room
+
+-- i is not one of the places from lo up to, not including, hi
+abbrev pub Apart : ℕ → ℕ → ℕ → Type 0
+Apart lo hi i = (i < lo) ⊎ (hi ≤ i)
+
+-- X is as long as W, and the same but for the places from lo to hi
+pub record Outside (lo hi : ℕ) (W X : List ℕ) : Type 0 where
+  pub long : length X ≡ length W
+  pub same : (i : ℕ) → Apart lo hi i → getD X i 0 ≡ getD W i 0

@@ -2,7 +2,7 @@
 -- Assumes nothing.
 use mathlib.Core.Bool.{Bool, true, false, cond, not, _&&_, _||_}
 use mathlib.Core.List.{List, [], _∷_, _++_}
-use mathlib.Core.Path.{_≡_, refl, sym, ap, _∙_, subst}
+use mathlib.Core.Path.{_≡_, refl, sym, ap, _∙_}
 use Prim.Native.Nat.{ℕ, zero, suc, _+_, _*_, _/_, _≤_, _<_}
 use native.Mathlib.Nat.{zero-add}
 use native.Mathlib.Numerals.{add-one}
@@ -12,12 +12,13 @@ use lib.ListN.{length, getD, set, replicate, length-replicate, getD-replicate, l
 use lib.Seq.{sets, length-sets, getD-set-same, getD-set-other}
 use borrow.Author.Tests.{eqb-true, eqb-false, lt-ltb, ltb-true, ltb-false}
 use Rattle.graph.specs.Lists.{among, keep, range}
-use Rattle.le.specs.Le.{Below, bytes, numberAt, numbers}
+use Rattle.le.specs.Le.{bytes, numberAt, numbers}
 use Rattle.links.specs.Links.{cells, marked, Heads}
 use Rattle.graph.proofs.Spiders.{keep-append}
 use Rattle.le.proofs.Numbers.{length-bytes, number-bytes, length-numbers}
 use Rattle.le.proofs.Places.{getD-numbers, set-numbers, numbers-next}
-use Rattle.le.proofs.Tables.{getD-sets, fill-table}
+use Rattle.le.proofs.Tables.{getD-sets}
+use Rattle.graph.proofs.Lists.{range-add}
 
 -- ---- cells
 
@@ -37,10 +38,6 @@ unfolding cells
 set-cells s i v h k =
     rw (length-sets s (i * 2) (bytes 2 v))
     (set-numbers 2 (length s / 2) s i (bytes 2 v) h (length-bytes 2 v) (omega arith) ∙ ap (set (numbers 2 (length s / 2) s) i) (number-bytes 2 v k))
-
--- cells filled from the front
-pub fill-front : (d : List ℕ) (k v : ℕ) → set (sets d 0 (replicate k v)) k v ≡ sets d 0 (replicate (k + 1) v)
-fill-front d k v = ap (λ (i : ℕ). set (sets d 0 (replicate k v)) i v) (sym (zero-add k)) ∙ fill-table d 0 k v
 
 -- ---- which nodes are listed
 
@@ -138,26 +135,12 @@ marked-at nodes W x l = rw (lt-ltb x nodes l)
 
 -- ---- counting
 
-pub range-snoc : (from n : ℕ) → range from (suc n) ≡ range from n ++ ((from + n) ∷ [])
-range-snoc from zero = let e : from + 0 ≡ from = omega arith in rw e
-range-snoc from (suc n) = let e : from + suc n ≡ suc from + n = omega arith in rw e (ap (λ (r : List ℕ). from ∷ r) (range-snoc (suc from) n))
-
 pub count-more : (test : ℕ → Bool) (n : ℕ) → length (keep test (range 0 n)) + length (keep test (n ∷ [])) ≡ length (keep test (range 0 (n + 1)))
 count-more test n =
-    let e : range 0 (n + 1) ≡ range 0 n ++ (n ∷ []) = ap (range 0) (add-one n) ∙ range-snoc 0 n ∙ ap (λ (k : ℕ). range 0 n ++ (k ∷ [])) (zero-add n) in
+    let e : range 0 (n + 1) ≡ range 0 n ++ (n ∷ []) = range-add 0 n 1 ∙ ap (λ (k : ℕ). range 0 n ++ (k ∷ [])) (zero-add n) in
     rw (e, keep-append test (range 0 n) (n ∷ []), length-append (keep test (range 0 n)) (keep test (n ∷ [])))
 
 -- ---- a list of ids
-
--- an id that was read from a list of ids below a bound
-pub below-at : (bound n : ℕ) (b : List ℕ) → Below bound (numbers 2 n b) → (k : ℕ) → k < n → (id : ℕ) → id ≡ numberAt 2 b (k * 2) → id < bound
-below-at bound n b h k l id e =
-    subst (λ (x : ℕ). x < bound) (getD-numbers 2 n b k l ∙ sym e) (go bound (numbers 2 n b) h k (rw length-numbers l))
-  where
-    go : (bound : ℕ) (xs : List ℕ) → Below bound xs → (k : ℕ) → k < length xs → getD xs k 0 < bound
-    go bound [] h k l = absurd (omega arith)
-    go bound (x ∷ xs) h zero l = h .0
-    go bound (x ∷ xs) h (suc k) l = go bound xs (h .1) k (omega arith)
 
 pub list-more : (nodes : ℕ) (W W′ b : List ℕ) (j id : ℕ) → id ≡ numberAt 2 b (j * 2) → id < nodes → nodes * 4 ≤ length W
     → W′ ≡ set (set (set (set W (id * 4) 0) (id * 4 + 1) 0) (id * 4 + 2) 0) (id * 4 + 3) 0 → Heads nodes W (among (numbers 2 j b)) → Heads nodes W′ (among (numbers 2 (j + 1) b))

@@ -5,7 +5,6 @@ use mathlib.Core.List.{List, [], _∷_, _++_, append-nil, append-assoc}
 use mathlib.Core.Path.{_≡_, refl, sym, ap, _∙_, subst}
 use Prim.Native.Nat.{ℕ, zero, suc, _+_, _*_, _-_, _≤_, _<_}
 use native.Mathlib.Nat.{zero-add}
-use native.Mathlib.Numerals.{add-one}
 use native.Mathlib.Omega.{arith}
 use lib.Dec.{ltb, eqb}
 use lib.ListN.{length, getD, set, length-set, length-append}
@@ -19,7 +18,7 @@ use Rattle.graph.proofs.Spiders.{keep-append}
 use Rattle.le.proofs.Numbers.{length-row, row-append}
 use Rattle.le.proofs.Stores.{sets-append}
 use Rattle.le.proofs.Tables.{set-sets-before}
-use Rattle.links.proofs.Cells.{range-snoc}
+use Rattle.graph.proofs.Lists.{range-add}
 
 -- ---- stores that do not meet
 
@@ -358,7 +357,7 @@ module _ (nodes : ℕ) (W : List ℕ) (fresh : ℕ → ℕ → List ℕ) (id : �
   -- one node more
   pub spiders-more : spiders nodes W fresh (id + 1) ≡ spiders nodes W fresh id ++ ofNode nodes W fresh id
   spiders-more =
-      ap (λ (l : List ℕ). joined (spiderRow fresh) (keep (marked nodes W) l)) (ap (range 0) (add-one id) ∙ range-snoc 0 id ∙ ap (λ (k : ℕ). range 0 id ++ (k ∷ [])) (zero-add id))
+      ap (λ (l : List ℕ). joined (spiderRow fresh) (keep (marked nodes W) l)) (range-add 0 id 1 ∙ ap (λ (k : ℕ). range 0 id ++ (k ∷ [])) (zero-add id))
       ∙ ap (joined (spiderRow fresh)) (keep-append (marked nodes W) (range 0 id) (id ∷ []))
       ∙ joined-append (spiderRow fresh) (keep (marked nodes W) (range 0 id)) (keep (marked nodes W) (id ∷ []))
 

@@ -2,14 +2,13 @@
 // A cell is a number of 2 bytes. Node x has the four cells from 4 x on, one for each kind of entry: the fresh node that came last, 0 where there is none.
 // A node that is not listed has 65535 there. Fresh node f has the cell at 3 nodes + f: the fresh node before it in its chain, or 0.
 ghost use mathlib.Core.Path.{_≡_};
-ghost use mathlib.Core.Bool.{Bool, true, false, not};
-ghost use mathlib.Core.List.{List, [], _∷_, _++_};
-ghost use Prim.Native.Nat.{ℕ, _+_, _*_, _/_, _-_, _<_, _≤_};
-ghost use lib.Dec.{eqb};
-ghost use lib.ListN.{length, getD, set, drop, replicate};
+ghost use mathlib.Core.Bool.{true, false};
+ghost use mathlib.Core.List.{List, [], _∷_};
+ghost use Prim.Native.Nat.{ℕ, _+_, _*_, _-_, _<_, _≤_};
+ghost use lib.ListN.{length, getD, set, replicate};
 ghost use lib.Seq.{sets};
-ghost use Rattle.le.specs.Le.{Below, numberAt, numbers, row};
-ghost use Rattle.graph.specs.Lists.{among, keep, joined, range};
+ghost use Rattle.le.specs.Le.{Below, numbers, row};
+ghost use Rattle.graph.specs.Lists.{among, keep, range};
 ghost use Rattle.links.specs.Links.{cells, marked, Heads, Chained, Linked, leftRow, rightRow, ofNode, spiders};
 
 // The kinds of entries a node can have.

@@ -25,7 +25,7 @@ use Rattle.graph.proofs.Laws.{form1-usable, largest}
 use Rattle.graph.proofs.ReadWrite.{read-sound}
 use Rattle.graph.proofs.Refusals.{Listed, on-graph-listed, on-nothing-listed, read-listed}
 use Rattle.graph.proofs.Steps.{passed}
-use Rattle.hypergraph.proofs.Ranges.{length-range}
+use Rattle.graph.proofs.Lists.{length-range}
 use Rattle.le.proofs.Numbers.{length-row}
 use Rattle.ohg.proofs.Ids.{Small, SmallStart}
 

@@ -1,6 +1,6 @@
 -- The number that an exported function returns: code, a and b in 8, 24 and 32 bits.
 -- Assumes nothing.
-use Prim.Native.Nat.{ℕ, _+_, _*_, _<_, _^_}
+use Prim.Native.Nat.{ℕ, _+_, _*_, _<_}
 use Rattle.graph.specs.Answer.{Answer, refused, answered}
 use mathlib.Core.Bool.{cond}
 use Rattle.delete.specs.declared.Deleting.{Deleting}

@@ -24,6 +24,38 @@ fn pack(w: Written) -> u64
     }
 }
 
+// What deleting nodes answered, as one number: code, bytes written and map entries.
+fn pack_deleting(d: Deleting) -> u64
+    requires { ⌜ DeletingPacks d ⌝ }
+    ensures { λ r. ⌜ r ≡ packedDeleting d ⌝ }
+{
+    match d {
+        Deleting::Done { bytes, entries } => 256 * (bytes as u64) + 4294967296 * (entries as u64),
+        Deleting::Refused(x) => x.no as u64,
+    }
+}
+
+// What the choice answered, as one number: code, ids in the list and vertices removed freely.
+fn pack_cutting(c: Cutting) -> u64
+    requires { ⌜ CuttingPacks c ⌝ }
+    ensures { λ r. ⌜ r ≡ packedCutting c ⌝ }
+{
+    match c {
+        Cutting::Done { ids, free } => 256 * (ids as u64) + 4294967296 * (free as u64),
+        Cutting::Refused(x) => x.no as u64,
+    }
+}
+
+// What a check answered, as one number: code, and 1 for yes.
+fn pack_check(c: Checked) -> u64
+    ensures { λ r. ⌜ r ≡ packedChecked c ⌝ }
+{
+    match c {
+        Checked::Answer(b) => if b { 256 } else { 0 },
+        Checked::Refused(x) => x.no as u64,
+    }
+}
+
 // The sizes of the graph: nodes, edges, ports, global sources, global targets, pairs.
 #[no_mangle]
 pub extern "C" fn ohg_read(src: &[u8], sizes: &mut [u8]) -> u64
@@ -61,6 +93,26 @@ pub extern "C" fn ohg_discrete(labels: &[u8], out: &mut [u8]) -> u64
     ensures { λ r. ⌜ now (out .exit) ≡ laid (λ m. m .form) (onNothing form1 (length (now (out .entry))) (discreteStep (now (labels .entry)))) (now (out .entry)) ⌝ }
 {
     let w = hypergraph::discrete(labels, out);
+    pack(w)
+}
+
+// Nodes of these labels, each a global source and a global target.
+#[no_mangle]
+pub extern "C" fn ohg_identity(labels: &[u8], out: &mut [u8]) -> u64
+    ensures { λ r. ⌜ r ≡ packedAs (λ m. length (m .form)) (λ m. m .id) (onNothing form1 (length (now (out .entry))) (identityStep (now (labels .entry)))) ⌝ }
+    ensures { λ r. ⌜ now (out .exit) ≡ laid (λ m. m .form) (onNothing form1 (length (now (out .entry))) (identityStep (now (labels .entry)))) (now (out .entry)) ⌝ }
+{
+    let w = open_hypergraph::identity(labels, out);
+    pack(w)
+}
+
+// One edge alone, its sources and targets the global ones.
+#[no_mangle]
+pub extern "C" fn ohg_singleton(label: u32, sources: &[u8], targets: &[u8], out: &mut [u8]) -> u64
+    ensures { λ r. ⌜ r ≡ packedAs (λ m. length (m .form)) (λ m. m .id) (onNothing form1 (length (now (out .entry))) (singletonStep label (now (sources .entry)) (now (targets .entry)))) ⌝ }
+    ensures { λ r. ⌜ now (out .exit) ≡ laid (λ m. m .form) (onNothing form1 (length (now (out .entry))) (singletonStep label (now (sources .entry)) (now (targets .entry)))) (now (out .entry)) ⌝ }
+{
+    let w = open_hypergraph::singleton(label, sources, targets, out);
     pack(w)
 }
 
@@ -116,45 +168,6 @@ pub extern "C" fn ohg_unify(src: &[u8], v: u32, w: u32, out: &mut [u8]) -> u64
     pack(w)
 }
 
-// What a check answered, as one number: code, and 1 for yes.
-fn pack_check(c: Checked) -> u64
-    ensures { λ r. ⌜ r ≡ packedChecked c ⌝ }
-{
-    match c {
-        Checked::Answer(b) => if b { 256 } else { 0 },
-        Checked::Refused(x) => x.no as u64,
-    }
-}
-
-// Whether each node occurs at most once among all edge targets and at most once among all edge sources.
-#[no_mangle]
-pub extern "C" fn ohg_once_fed(src: &[u8], room: &mut [u8]) -> u64
-    ensures { λ r. ⌜ r ≡ packedAs (λ b. cond b 1 0) (λ b. 0) (inWorkRoom 2048 (length (now (room .entry))) (onceFedCall form1 (now (src .entry)))) ⌝ }
-{
-    let c = checks::once_fed(src, room);
-    pack_check(c)
-}
-
-// Nodes of these labels, each a global source and a global target.
-#[no_mangle]
-pub extern "C" fn ohg_identity(labels: &[u8], out: &mut [u8]) -> u64
-    ensures { λ r. ⌜ r ≡ packedAs (λ m. length (m .form)) (λ m. m .id) (onNothing form1 (length (now (out .entry))) (identityStep (now (labels .entry)))) ⌝ }
-    ensures { λ r. ⌜ now (out .exit) ≡ laid (λ m. m .form) (onNothing form1 (length (now (out .entry))) (identityStep (now (labels .entry)))) (now (out .entry)) ⌝ }
-{
-    let w = open_hypergraph::identity(labels, out);
-    pack(w)
-}
-
-// One edge alone, its sources and targets the global ones.
-#[no_mangle]
-pub extern "C" fn ohg_singleton(label: u32, sources: &[u8], targets: &[u8], out: &mut [u8]) -> u64
-    ensures { λ r. ⌜ r ≡ packedAs (λ m. length (m .form)) (λ m. m .id) (onNothing form1 (length (now (out .entry))) (singletonStep label (now (sources .entry)) (now (targets .entry)))) ⌝ }
-    ensures { λ r. ⌜ now (out .exit) ≡ laid (λ m. m .form) (onNothing form1 (length (now (out .entry))) (singletonStep label (now (sources .entry)) (now (targets .entry)))) (now (out .entry)) ⌝ }
-{
-    let w = open_hypergraph::singleton(label, sources, targets, out);
-    pack(w)
-}
-
 // One more node, at the end of an edge's sources.
 #[no_mangle]
 pub extern "C" fn ohg_add_edge_source(src: &[u8], edge: u32, label: u32, out: &mut [u8]) -> u64
@@ -183,17 +196,6 @@ pub extern "C" fn ohg_delete_edges(src: &[u8], ids: &[u8], out: &mut [u8], room:
 {
     let w = delete::delete_edges(src, ids, out, room);
     pack(w)
-}
-
-// What deleting nodes answered, as one number: code, bytes written and map entries.
-fn pack_deleting(d: Deleting) -> u64
-    requires { ⌜ DeletingPacks d ⌝ }
-    ensures { λ r. ⌜ r ≡ packedDeleting d ⌝ }
-{
-    match d {
-        Deleting::Done { bytes, entries } => 256 * (bytes as u64) + 4294967296 * (entries as u64),
-        Deleting::Refused(x) => x.no as u64,
-    }
 }
 
 // The graph without these nodes, and where each old node went.
@@ -238,17 +240,6 @@ pub extern "C" fn ohg_spiderize_nodes(
     pack(w)
 }
 
-// What the choice answered, as one number: code, ids in the list and vertices removed freely.
-fn pack_cutting(c: Cutting) -> u64
-    requires { ⌜ CuttingPacks c ⌝ }
-    ensures { λ r. ⌜ r ≡ packedCutting c ⌝ }
-{
-    match c {
-        Cutting::Done { ids, free } => 256 * (ids as u64) + 4294967296 * (free as u64),
-        Cutting::Refused(x) => x.no as u64,
-    }
-}
-
 // Nodes that every directed cycle passes through.
 #[no_mangle]
 pub extern "C" fn ohg_cycle_breaking_nodes(src: &[u8], list: &mut [u8], room: &mut [u8]) -> u64
@@ -265,5 +256,14 @@ pub extern "C" fn ohg_no_loop(src: &[u8], room: &mut [u8]) -> u64
     ensures { λ r. ⌜ r ≡ packedAs (λ b. cond b 1 0) (λ b. 0) (inWorkRoom 303104 (length (now (room .entry))) (noLoopCall form1 (now (src .entry)))) ⌝ }
 {
     let c = cycle::no_loop(src, room);
+    pack_check(c)
+}
+
+// Whether each node occurs at most once among all edge targets and at most once among all edge sources.
+#[no_mangle]
+pub extern "C" fn ohg_once_fed(src: &[u8], room: &mut [u8]) -> u64
+    ensures { λ r. ⌜ r ≡ packedAs (λ b. cond b 1 0) (λ b. 0) (inWorkRoom 2048 (length (now (room .entry))) (onceFedCall form1 (now (src .entry)))) ⌝ }
+{
+    let c = checks::once_fed(src, room);
     pack_check(c)
 }

@@ -18,7 +18,7 @@ use Rattle.graph.proofs.Steps.{stops, goes}
 use Rattle.graph.proofs.Verdicts.{nothing-made, nothing-stopped}
 use Rattle.hypergraph.proofs.Calls.{next}
 use Rattle.hypergraph.proofs.Forms.{sizes, headed}
-use Rattle.hypergraph.proofs.Ranges.{length-range, range-add}
+use Rattle.graph.proofs.Lists.{length-range, range-add}
 use Rattle.le.proofs.Numbers.{row-append}
 
 -- ---- identity

@@ -1,16 +1,16 @@
 // Open graphs from nothing: nodes as they are, and one operation with its ends open.
 ghost use mathlib.Core.Path.{_≡_};
-ghost use Prim.Native.Nat.{ℕ, _+_, _*_, _/_, _<_, _≤_};
-ghost use mathlib.Core.List.{List, [], _∷_, _++_};
+ghost use Prim.Native.Nat.{_+_, _*_, _≤_};
+ghost use mathlib.Core.List.{_∷_, _++_};
 ghost use lib.ListN.{length};
 ghost use lib.Seq.{sets};
 ghost use Rattle.le.specs.Le.{bytes, row};
 ghost use Rattle.graph.specs.Lists.{range};
-ghost use Rattle.graph.specs.Graph.{form1, Within};
+ghost use Rattle.graph.specs.Graph.{form1};
 ghost use Rattle.graph.specs.Form.{header};
 ghost use Rattle.graph.specs.Answer.{laid};
 ghost use Rattle.graph.specs.Calls.{onNothing, identityStep, singletonStep};
-ghost use Rattle.form.specs.Form.{countsOf, counted, written};
+ghost use Rattle.form.specs.Form.{counted, written};
 use form::Fit;
 use form::Listed;
 use form::Sizes;

@@ -1,6 +1,6 @@
 -- The form of a graph with a port more: the edges before it as they stood, the edge with the new id among its ids, and the rest as it stood.
 -- Assumes nothing.
-use mathlib.Core.List.{List, [], _∷_, _++_, map, append-assoc, append-nil}
+use mathlib.Core.List.{List, [], _∷_, _++_, map, append-assoc, append-nil, map-append}
 use mathlib.Core.Path.{_≡_, refl, sym, ap, _∙_}
 use Prim.Native.Nat.{ℕ, _+_, _*_, _-_, _<_}
 use native.Mathlib.Omega.{arith}
@@ -15,7 +15,6 @@ use Rattle.graph.specs.Lists.{joined, changed}
 use Rattle.le.specs.Le.{bytes, row}
 use Rattle.form.proofs.Sections.{labelsOn, sourcesOn, stored-sections}
 use Rattle.form.proofs.Whole.{Stored}
-use Rattle.graph.proofs.Kept.{map-append}
 use Rattle.graph.proofs.Laws.{joined-append}
 use Rattle.hypergraph.proofs.Forms.{sizes, headed}
 use Rattle.le.proofs.Numbers.{length-row, row-append}
@@ -32,7 +31,7 @@ regroup a l n f e k s = simp append-assoc
 module _ (front : List Edge) (e e′ : Edge) (back : List Edge) where
   same-labels : e′ .label ≡ e .label → map (λ (x : Edge). x .label) (front ++ (e′ ∷ back)) ≡ map (λ (x : Edge). x .label) (front ++ (e ∷ back))
   same-labels p =
-      map-append front (e′ ∷ back) ∙ ap (λ (n : ℕ). map (λ (x : Edge). x .label) front ++ (n ∷ map (λ (x : Edge). x .label) back)) p ∙ sym (map-append front (e ∷ back))
+      map-append (λ (e : Edge). e .label) front (e′ ∷ back) ∙ ap (λ (n : ℕ). map (λ (x : Edge). x .label) front ++ (n ∷ map (λ (x : Edge). x .label) back)) p ∙ sym (map-append (λ (e : Edge). e .label) front (e ∷ back))
 
   as-many : length (front ++ (e′ ∷ back)) ≡ length (front ++ (e ∷ back))
   as-many = length-append front (e′ ∷ back) ∙ sym (length-append front (e ∷ back))

@@ -5,10 +5,11 @@ use mathlib.Core.Logic.{_⊎_, inl, inr, ⊎-elim}
 use mathlib.Core.Path.{_≡_, sym, _∙_}
 use Prim.Native.Nat.{ℕ, _+_, _-_, _*_, _/_, _<_, _≤_}
 use native.Mathlib.Omega.{arith}
-use Rattle.queue.specs.Queue.{candidateAt, Heap, Holds, Outside}
+use Rattle.queue.specs.Queue.{candidateAt, Heap, Holds}
 use Rattle.queue.specs.declared.Candidate.{Candidate}
 use Rattle.queue.proofs.Entries.{entry-outside}
 use Rattle.queue.proofs.Gaps.{before-by}
+use Rattle.le.specs.Le.{Outside}
 
 -- a queue of no entries
 pub heap-none : {W : List ℕ} {base : ℕ} → Heap W base 0

@@ -8,9 +8,10 @@ use native.Mathlib.Omega.{arith}
 use Rattle.queue.specs.Queue.{candidateAt, Before, Heap, Holds, Popped}
 use Rattle.queue.specs.Sift.{Beside, FirstBelow, Sinking, Sunk}
 use Rattle.queue.specs.declared.Candidate.{Candidate}
-use Rattle.queue.proofs.Entries.{alike, Put, out-none, out-then, out-wider}
+use Rattle.queue.proofs.Entries.{alike, Put}
 use Rattle.queue.proofs.Gaps.{moved-none, moved-then, moved-step, put-holds, put-only, before-by, put-order, top-first}
 use Rattle.queue.proofs.Order.{before-refl, before-trans}
+use Rattle.le.proofs.Frames.{outside-none, outside-trans, outside-wider}
 
 -- k is an entry below entry i that comes out no later than the left one and the right one, if that is there
 pub first-below : {W : List ℕ} {base n i : ℕ} (k : ℕ) → 0 < k → k < n → (k - 1) / 2 ≡ i
@@ -30,14 +31,14 @@ first-below {W} {base} {n} {i} k pos h e left right = record {
     other j p d z = omega arith
 
 pub down-start : {W : List ℕ} {base n : ℕ} {c : Candidate} → 0 < n → Heap W base n → Sinking W W base n c 0
-down-start p h = record { inside = p; frame = out-none; moved = moved-none; heap = h; over = λ l. absurd (omega arith) }
+down-start p h = record { inside = p; frame = outside-none _ _ _; moved = moved-none; heap = h; over = λ l. absurd (omega arith) }
 
 -- the first of the entries below the gap moves into the gap
 pub down-turn : {W X Y : List ℕ} {base n gap k : ℕ} {c : Candidate} → Sinking W X base n c gap → FirstBelow X base n gap k
     → Before (candidateAt X base k) c → Put X Y base gap (candidateAt X base k) → Sinking W Y base n c k
 down-turn {W} {X} {Y} {base} {n} {gap} {k} {c} r f b p = record {
   inside = f .inside;
-  frame = out-then (r .frame) (out-wider (omega arith) (omega (arith, r .inside)) (p .frame));
+  frame = outside-trans (r .frame) (outside-wider (omega arith) (omega (arith, r .inside)) (p .frame));
   moved = moved-then (r .moved) (moved-step k (r .inside) (f .inside) far p);
   heap = record {
     order = λ i h l. put-order p i h
@@ -61,7 +62,7 @@ pub popped : {W X Y : List ℕ} {base n gap : ℕ} {r c : Candidate} → r ≡ c
 popped {W} {X} {Y} {base} {n} {gap} {r} {c} top end pos heap s p =
     let k = s .sinking in
     record {
-      frame = out-then (out-wider (omega arith) (omega arith) (k .frame)) (out-wider (omega arith) (omega (arith, k .inside)) (p .frame));
+      frame = outside-trans (outside-wider (omega arith) (omega arith) (k .frame)) (outside-wider (omega arith) (omega (arith, k .inside)) (p .frame));
       heap = record {
         order = λ i h l. put-order p i h
             (λ e. before-trans (k .heap .order i h l) (subst (λ (m : ℕ). Before (candidateAt X base m) c) (sym e) (k .over (omega arith))))
@@ -87,7 +88,7 @@ popped {W} {X} {Y} {base} {n} {gap} {r} {c} top end pos heap s p =
 -- the only entry is taken out
 pub popped-one : {W : List ℕ} {base n : ℕ} {r : Candidate} → r ≡ candidateAt W base 0 → 0 < n → n - 1 ≡ 0 → Popped W W base n r
 popped-one {W} {base} {n} {r} top pos one = record {
-  frame = out-none;
+  frame = outside-none _ _ _;
   heap = record { order = λ i h l. absurd (omega arith) };
   was = record { index = 0; inside = pos; is = sym top };
   first = λ x w. before-by top (sym (only x w)) before-refl;

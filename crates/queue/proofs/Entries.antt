@@ -1,39 +1,21 @@
--- Frames and entries in a list of words: what a change leaves alone, and what an entry that was put down leaves.
+-- Entries in a list of words: what a change elsewhere leaves alone, and what an entry that was put down leaves.
 -- Assumes nothing.
 use mathlib.Core.List.{List, [], _∷_}
 use mathlib.Core.Logic.{_⊎_, inl, inr, ⊎-elim, by-cases}
-use mathlib.Core.Path.{_≡_, refl, sym, ap, _∙_, subst}
+use mathlib.Core.Path.{_≡_, sym, ap, _∙_, subst}
 use Prim.Native.Nat.{ℕ, suc, _+_, _*_, _<_, _≤_}
 use native.Mathlib.Decide.{ℕ-discrete}
 use native.Mathlib.Nat.{add-zero}
 use native.Mathlib.Numerals.{add-one, add-two, add-three}
 use native.Mathlib.Omega.{arith, ne-cases}
-use lib.ListN.{length, getD, set, length-set}
-use lib.Seq.{sets, getD-set-other}
-use Rattle.queue.specs.Queue.{candidateAt, Outside}
+use lib.ListN.{length, getD, set}
+use lib.Seq.{sets}
+use Rattle.queue.specs.Queue.{candidateAt}
 use Rattle.queue.specs.Sift.{placed}
 use Rattle.queue.specs.declared.Candidate.{Candidate}
 use Rattle.le.proofs.Tables.{getD-sets}
-
--- ---- frames
-
-pub out-none : {lo hi : ℕ} {W : List ℕ} → Outside lo hi W W
-out-none = record { len = refl; same = λ j o. refl }
-
-pub out-then : {lo hi : ℕ} {W X Y : List ℕ} → Outside lo hi W X → Outside lo hi X Y → Outside lo hi W Y
-out-then p q = record { len = q .len ∙ p .len; same = λ j o. q .same j o ∙ p .same j o }
-
-pub out-wider : {lo hi lo′ hi′ : ℕ} {W X : List ℕ} → lo′ ≤ lo → hi ≤ hi′ → Outside lo hi W X → Outside lo′ hi′ W X
-out-wider l h p = record {
-  len = p .len;
-  same = λ j o. p .same j (⊎-elim (λ a. inl (omega arith)) (λ b. inr (omega arith)) o);
-}
-
-pub out-set : {lo hi : ℕ} {W : List ℕ} (i v : ℕ) → lo ≤ i → i < hi → Outside lo hi W (set W i v)
-out-set {lo} {hi} {W} i v h k = record {
-  len = length-set W i v;
-  same = λ j o. getD-set-other W i j v 0 (λ e. ⊎-elim (λ a. omega arith) (λ b. omega arith) o);
-}
+use Rattle.le.specs.Le.{Outside}
+use Rattle.le.proofs.Frames.{outside-set, outside-trans}
 
 -- ---- entries
 
@@ -75,10 +57,10 @@ placed-frame : (W : List ℕ) (base i : ℕ) (c : Candidate) → Outside (base +
 unfolding placed
 placed-frame W base i c =
     let x : ℕ = base + 4 * i in
-    out-then (out-set x (c .score) (omega arith) (omega arith))
-    (out-then (out-set (suc x) (c .id) (omega arith) (omega arith))
-    (out-then (out-set (suc (suc x)) (c .indegree) (omega arith) (omega arith))
-    (out-set (suc (suc (suc x))) (c .outdegree) (omega arith) (omega arith))))
+    outside-trans (outside-set _ _ _ x (c .score) (omega arith) (omega arith))
+    (outside-trans (outside-set _ _ _ (suc x) (c .id) (omega arith) (omega arith))
+    (outside-trans (outside-set _ _ _ (suc (suc x)) (c .indegree) (omega arith) (omega arith))
+    (outside-set _ _ _ (suc (suc (suc x))) (c .outdegree) (omega arith) (omega arith))))
 
 placed-is : (W : List ℕ) (base i : ℕ) (c : Candidate) → base + 4 * (i + 1) ≤ length W → candidateAt (placed W base i c) base i ≡ c
 unfolding candidateAt placed

@@ -8,14 +8,15 @@ use native.Mathlib.Omega.{arith}
 use Rattle.queue.specs.Queue.{candidateAt, Before, Heap, Holds, Pushed}
 use Rattle.queue.specs.Sift.{Beside, Rising, Risen}
 use Rattle.queue.specs.declared.Candidate.{Candidate}
-use Rattle.queue.proofs.Entries.{alike, Put, out-none, out-then, out-wider}
+use Rattle.queue.proofs.Entries.{alike, Put}
 use Rattle.queue.proofs.Gaps.{moved-none, moved-then, moved-step, put-holds, put-only, put-order}
 use Rattle.queue.proofs.Order.{before-refl, before-trans}
+use Rattle.le.proofs.Frames.{outside-none, outside-trans, outside-wider}
 
 pub up-start : {W : List ℕ} {base n : ℕ} {c : Candidate} → Heap W base n → Rising W W base n c n
 up-start h = record {
   inside = omega arith;
-  frame = out-none;
+  frame = outside-none _ _ _;
   moved = moved-none;
   heap = h;
   last = λ l. absurd (omega arith);
@@ -42,7 +43,7 @@ pub up-turn : {W X Y : List ℕ} {base n gap : ℕ} {c : Candidate} → Rising W
     → Rising W Y base n c ((gap - 1) / 2)
 up-turn {W} {X} {Y} {base} {n} {gap} {c} r pos b p = record {
   inside = omega (arith, r .inside);
-  frame = out-then (r .frame) (out-wider (omega arith) (omega (arith, r .inside)) (p .frame));
+  frame = outside-trans (r .frame) (outside-wider (omega arith) (omega (arith, r .inside)) (p .frame));
   moved = moved-then (r .moved) (moved-step u (omega (arith, r .inside)) (omega (arith, r .inside)) (λ e. omega arith) p);
   heap = record { order = λ i h l. turned i h (omega arith) (λ e. absurd (omega arith)) };
   last = λ l. turned n (omega arith) (omega arith) (λ e d. omega (arith, r .inside));
@@ -64,7 +65,7 @@ pushed {W} {X} {Y} {base} {n} {gap} {c} s p =
     let r = s .rising in
     let b = r .inside in
     record {
-      frame = out-then (r .frame) (out-wider (omega arith) (omega arith) (p .frame));
+      frame = outside-trans (r .frame) (outside-wider (omega arith) (omega arith) (p .frame));
       heap = record {
         order = λ i h l. put-order p i h
             (λ e. subst (λ (k : ℕ). Before (candidateAt X base ((k - 1) / 2)) c) (sym e) (s .above (omega arith)))

@@ -4,8 +4,9 @@ use mathlib.Core.Path.{_≡_}
 use mathlib.Core.Logic.{_⊎_}
 use mathlib.Core.List.{List}
 use Prim.Native.Nat.{ℕ, _+_, _-_, _*_, _/_, _<_, _≤_}
-use lib.ListN.{length, getD}
+use lib.ListN.{getD}
 use Rattle.queue.specs.declared.Candidate.{Candidate}
+use Rattle.le.specs.Le.{Outside}
 
 -- entry i of the queue, four words: score, id, arcs in, arcs out (document 01: the `Candidate` tuple is a struct, over lent room)
 unfoldable pub candidateAt : List ℕ → ℕ → ℕ → Candidate
@@ -30,11 +31,6 @@ pub record Holds (W : List ℕ) (base n : ℕ) (c : Candidate) : Type 0 where
   pub index : ℕ
   pub inside : index < n
   pub is : candidateAt W base index ≡ c
-
--- X is as long as W, and agrees with it but from word lo up to, not including, word hi
-pub record Outside (lo hi : ℕ) (W X : List ℕ) : Type 0 where
-  pub len : length X ≡ length W
-  pub same : (j : ℕ) → (j < lo) ⊎ (hi ≤ j) → getD X j 0 ≡ getD W j 0
 
 -- W had n candidates in heap order, and X has these and c
 pub record Pushed (W X : List ℕ) (base n : ℕ) (c : Candidate) : Type 0 where

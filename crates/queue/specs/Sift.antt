@@ -8,7 +8,8 @@ use Prim.Native.Nat.{ℕ, _+_, _-_, _*_, _/_, _<_, _≤_}
 use lib.Dec.{eqb, ltb}
 use lib.Seq.{sets}
 use Rattle.queue.specs.declared.Candidate.{Candidate}
-use Rattle.queue.specs.Queue.{candidateAt, Before, Heap, Outside}
+use Rattle.queue.specs.Queue.{candidateAt, Before, Heap}
+use Rattle.le.specs.Le.{Outside}
 
 -- a comes out before b: a larger score, or the same score and a lower id
 unfoldable pub ahead : Candidate → Candidate → Bool

@@ -10,14 +10,14 @@ use lib.Dec.{T, eqb}
 use lib.ListN.{length, getD, set, length-set}
 use lib.Seq.{getD-set-other}
 use Rattle.choice.specs.Arcs.{has, without}
-use Rattle.incidence.specs.Tables.{part, Outside}
-use Rattle.queue.specs.Queue as q
+use Rattle.incidence.specs.Tables.{part}
 use Rattle.queue.specs.Queue.{candidateAt, Heap, Holds, Before}
 use Rattle.queue.specs.declared.Candidate.{Candidate}
 use Rattle.removal.specs.Engine.{Kept, live, actives}
 use Rattle.choice.proofs.Degrees.{marked, marked-has, marked-length, marked-set}
 use Rattle.choice.proofs.Sets.{has-lt}
 use Rattle.incidence.proofs.Parts.{part-length, part-at, part-ext, part-set}
+use Rattle.le.specs.Le.{Outside}
 
 pub kept-none : (k : ℕ) (W : List ℕ) → Kept k W W
 kept-none k W = record { long = refl; same = λ i l. refl }
@@ -33,9 +33,6 @@ kept-set k W i v h = record { long = length-set W i v; same = λ j l. getD-set-o
 
 pub kept-outside : {lo hi : ℕ} {W X : List ℕ} (k : ℕ) → k ≤ lo → Outside lo hi W X → Kept k W X
 kept-outside k h o = record { long = o .long; same = λ i l. o .same i (inl (omega arith)) }
-
-pub kept-queue : {lo hi : ℕ} {W X : List ℕ} (k : ℕ) → k ≤ lo → q.Outside lo hi W X → Kept k W X
-kept-queue k h o = record { long = o .len; same = λ i l. o .same i (inl (omega arith)) }
 
 pub kept-part : {k : ℕ} {W X : List ℕ} (off n : ℕ) → Kept k W X → off + n ≤ k → off + n ≤ length W → part X off n ≡ part W off n
 kept-part {k} {W} {X} off n a h l = part-ext W X off n (a .long) l (λ i m. a .same (off + i) (omega arith))

@@ -13,16 +13,12 @@ use lib.Seq.{getD-set-other, take-suc, take-all}
 use Rattle.choice.specs.Arcs.{Set, has, without, howMany, bump}
 use Rattle.incidence.specs.Tables.{part, ends, indegrees}
 use Rattle.removal.specs.Engine.{Kept, live, waitings, candidatesAt, Held, Offered, Side, other, Lowered, Lowerable}
-use Rattle.choice.proofs.Degrees.{lower, lower-at}
+use Rattle.choice.proofs.Degrees.{lower, lower-at, is-true}
 use Rattle.incidence.proofs.Building.{ends-part}
 use Rattle.incidence.proofs.Ends.{howMany-append, howMany-one, times-here}
 use Rattle.incidence.proofs.Parts.{part-length, part-at, part-ext, part-set}
 use Rattle.removal.proofs.Frames.{kept-none, kept-trans, kept-less, kept-set, kept-outside, kept-part, live-low, live-same}
 use Rattle.removal.proofs.Work.{held-stored, held-offered}
-
-is-true : (b : Bool) → T b → b ≡ true
-is-true true t = refl
-is-true false t = absurd t
 
 pub lower-append : (S : Set) (xs ys d : List ℕ) → lower S (xs ++ ys) d ≡ lower S ys (lower S xs d)
 unfolding lower

@@ -13,13 +13,15 @@ use lib.ListN.{length, getD, set, length-set, length-replicate, getD-replicate}
 use lib.Seq.{getD-set-other, getD-set-same}
 use borrow.Author.Tests.{eqb-true, eqb-false}
 use Rattle.choice.specs.Arcs.{In, Set, has, without, vertices}
-use Rattle.incidence.specs.Tables.{Outside, indegrees, outdegrees}
+use Rattle.incidence.specs.Tables.{indegrees, outdegrees}
 use Rattle.queue.specs.Queue.{Heap, Holds, Pushed}
 use Rattle.queue.specs.declared.Candidate.{Candidate}
 use Rattle.removal.specs.Engine.{Kept, insOf, outsOf, waitList, waitings, candidatesAt, entry, entryOf, Held, Waited, Queued, Offered, Seeded, Side}
 use Rattle.choice.proofs.Sets.{stays, gone, has-lt, without-subset}
-use Rattle.incidence.proofs.Parts.{part-ext, part-snoc, outside-none, outside-set}
-use Rattle.removal.proofs.Frames.{kept-none, kept-trans, kept-less, kept-outside, kept-queue, kept-part, holds-same, heap-same}
+use Rattle.incidence.proofs.Parts.{part-ext, part-snoc}
+use Rattle.removal.proofs.Frames.{kept-none, kept-trans, kept-less, kept-outside, kept-part, holds-same, heap-same}
+use Rattle.le.specs.Le.{Outside}
+use Rattle.le.proofs.Frames.{outside-none, outside-set}
 
 -- ---- the waiting list
 
@@ -74,7 +76,7 @@ queued-no W v selectable candidates h never = record {
 pub queued-yes : (W X : List ℕ) (v selectable candidates : ℕ) (c : Candidate) → v < selectable → Pushed W X candidatesAt candidates c → c ≡ entryOf W v
     → Queued W X v selectable candidates (candidates + 1)
 queued-yes W X v selectable candidates c l p e = record {
-  frame = kept-queue candidatesAt (omega arith) (p .frame);
+  frame = kept-outside candidatesAt (omega arith) (p .frame);
   few = omega arith;
   none = λ g. absurd (omega arith);
   heap = p .heap;

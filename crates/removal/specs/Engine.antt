@@ -1,7 +1,6 @@
 -- What the engine's tables say while vertices are taken away: the vertices that remain, their degrees, the waiting list and the candidate queue.
 -- Assumes nothing.
 use mathlib.Core.Path.{_≡_}
-use mathlib.Core.Bool.{_||_}
 use mathlib.Core.Logic.{_⊎_}
 use mathlib.Core.List.{List}
 use Prim.Native.Nat.{ℕ, _+_, _-_, _*_, _≤_, _<_}
@@ -11,9 +10,10 @@ use Rattle.choice.specs.Arcs.{Arc, In, Set, has, without, vertices, howMany, Lo
 use Rattle.choice.specs.Choice.{Peels, taken}
 use Rattle.choice.proofs.Cycles.{Bounded}
 use Rattle.choice.proofs.Degrees.{Counted, inner, lower, marked}
-use Rattle.incidence.specs.Tables.{part, arcsIn, ends, Outside, Incidence, indegrees, outdegrees}
+use Rattle.incidence.specs.Tables.{part, arcsIn, ends, Incidence, indegrees, outdegrees}
 use Rattle.queue.specs.declared.Candidate.{Candidate}
 use Rattle.queue.specs.Queue.{Heap, Holds}
+use Rattle.le.specs.Le.{Outside}
 
 -- past the lists of the incidence graph: flags of chosen nodes, and of the vertices that remain
 abbrev pub picks : ℕ

@@ -1,11 +1,10 @@
 // Vertices are taken out of the incidence graph in the room, one at a time: degrees, the waiting list of those that may go freely, and the candidate queue.
 ghost use mathlib.Core.Path.{_≡_};
 ghost use mathlib.Core.Bool.{_||_, not};
-ghost use mathlib.Core.Logic.{_⊎_};
 ghost use Prim.Native.Nat.{ℕ, _+_, _*_, _<_, _≤_};
 ghost use mathlib.Core.List.{[], _∷_};
 ghost use lib.Dec.{T, eqb};
-ghost use lib.ListN.{length, getD, set};
+ghost use lib.ListN.{length, getD};
 ghost use Rattle.le.specs.Le.{words};
 ghost use Rattle.choice.specs.Arcs.{has};
 ghost use Rattle.incidence.specs.Tables.{arcsIn, ends};

@@ -24,7 +24,7 @@ use Rattle.graph.specs.Spider.{entries, spiderizedAt, spiderize}
 use Rattle.le.specs.Le.{Below, numbers, row}
 use Rattle.links.specs.Links.{marked, Heads, Linked}
 use Rattle.spider.specs.Rewriting.{front, rest, spidered, answeredWith, Counted}
-use Rattle.spider.specs.Stored.{graphOf, Whole}
+use Rattle.form.specs.Stored.{graphOf, Whole}
 use Rattle.form.proofs.Calls.{fit-refused, fit-bytes}
 use Rattle.form.proofs.Sections.{encode-sections, stored-all}
 use Rattle.form.proofs.Whole.{Stored}
@@ -38,7 +38,7 @@ use Rattle.le.proofs.Numbers.{length-row, length-numbers}
 use Rattle.links.proofs.Cells.{listing}
 use Rattle.links.proofs.Chains.{sets-next, heads-linked}
 use Rattle.spider.proofs.Graphs.{sizes-are, as-list}
-use Rattle.spider.proofs.Walk.{whole-of}
+use Rattle.form.proofs.Walk.{whole-of}
 
 -- ---- the counts
 

@@ -16,14 +16,14 @@ use Rattle.graph.specs.Spider.{freshened, after, freshenedEdges, entriesOf}
 use Rattle.le.specs.Le.{row}
 use Rattle.links.specs.Links.{marked, Linked}
 use Rattle.spider.specs.Rewriting.{more, Rewritten, RewrittenEdge, four, ofSources, ofTargets, RewrittenEdges, rowOf}
-use Rattle.spider.specs.Stored.{graphOf, Whole, sourcesAt, targetsAt, edgeEnd, portsAt}
+use Rattle.form.specs.Stored.{graphOf, Whole, sourcesAt, targetsAt, edgeEnd, portsAt}
 use Rattle.graph.proofs.Laws.{joined-append, length-edges}
 use Rattle.graph.proofs.Spiders.{keep-append, after-append}
 use Rattle.le.proofs.Numbers.{length-row, row-append}
 use Rattle.links.proofs.Chains.{sets-next}
 use Rattle.spider.proofs.Entries.{linked-same}
 use Rattle.spider.proofs.Lists.{length-freshened, entries-append}
-use Rattle.spider.proofs.Walk.{At, here, none, edges-more, entries-more, entries-split, edge-count}
+use Rattle.form.proofs.Walk.{At, here, none, edges-more, entries-more, entries-split, edge-count}
 
 -- ---- an edge
 

@@ -1,7 +1,7 @@
 -- The passes over a list of entries, an entry at a time.
 -- Assumes nothing.
 use mathlib.Core.Bool.{Bool, true, false, cond, _&&_}
-use mathlib.Core.List.{List, [], _∷_, _++_, map, append-assoc, append-nil}
+use mathlib.Core.List.{List, [], _∷_, _++_, map, append-assoc, append-nil, map-append}
 use mathlib.Core.Path.{_≡_, refl, sym, ap, _∙_, subst}
 use Prim.Native.Nat.{ℕ, _+_, _*_, _≤_, _<_}
 use native.Mathlib.Nat.{add-zero}
@@ -24,11 +24,7 @@ use Rattle.spider.proofs.Lists.{length-freshened, freshened-append, ent
 
 module _ (b : List ℕ) (m : ℕ → Bool) where
   pub labelled-append : (xs ys : List ℕ) → labelled b m (xs ++ ys) ≡ labelled b m xs ++ labelled b m ys
-  labelled-append xs ys = ap (map (λ (id : ℕ). numberAt 4 b (15 + id * 4))) (keep-append m xs ys) ∙ map-append′ (keep m xs) (keep m ys)
-    where
-      map-append′ : (xs ys : List ℕ) → map (λ (id : ℕ). numberAt 4 b (15 + id * 4)) (xs ++ ys) ≡ map (λ (id : ℕ). numberAt 4 b (15 + id * 4)) xs ++ map (λ (id : ℕ). numberAt 4 b (15 + id * 4)) ys
-      map-append′ [] ys = refl
-      map-append′ (x ∷ xs) ys = ap (λ (r : List ℕ). numberAt 4 b (15 + x * 4) ∷ r) (map-append′ xs ys)
+  labelled-append xs ys = ap (map (λ (id : ℕ). numberAt 4 b (15 + id * 4))) (keep-append m xs ys) ∙ map-append (λ (id : ℕ). numberAt 4 b (15 + id * 4)) (keep m xs) (keep m ys)
 
   pub length-labels : (xs : List ℕ) → length (row 4 (labelled b m xs)) ≡ length (keep m xs) * 4
   length-labels xs = length-row 4 (labelled b m xs) ∙ ap (λ (n : ℕ). n * 4) (length-map (keep m xs) (λ (id : ℕ). numberAt 4 b (15 + id * 4)))

@@ -15,9 +15,9 @@ use Rattle.graph.specs.Lists.{keep, range, among, member}
 use Rattle.graph.specs.Spider.{entries, spiderizedAt, spiderize}
 use Rattle.links.specs.Links.{marked, spiders}
 use Rattle.spider.specs.Rewriting.{spidered}
-use Rattle.spider.specs.Stored.{graphOf, Whole}
+use Rattle.form.specs.Stored.{graphOf, Whole}
 use Rattle.graph.proofs.Sizes.{Spiderized, spiderize-sizes}
-use Rattle.spider.proofs.Walk.{node-count, edge-count}
+use Rattle.form.proofs.Walk.{node-count, edge-count}
 
 -- ---- a test on nodes is a listing of them
 

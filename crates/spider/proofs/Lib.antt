@@ -1,4 +1,3 @@
-pub mod Walk
 pub mod Lists
 pub mod Entries
 pub mod Edges

@@ -1,7 +1,7 @@
 -- The form of the spiderized graph, made of the parts that the passes write.
 -- Assumes nothing.
 use mathlib.Core.Bool.{Bool, true, false, cond}
-use mathlib.Core.List.{List, [], _∷_, _++_, map, append-assoc, append-nil}
+use mathlib.Core.List.{List, [], _∷_, _++_, map, append-assoc, append-nil, map-append}
 use mathlib.Core.Path.{_≡_, refl, sym, ap, _∙_, subst}
 use Prim.Native.Nat.{ℕ, zero, suc, _+_, _*_, _≤_, _<_}
 use native.Mathlib.Omega.{arith}
@@ -16,9 +16,8 @@ use Rattle.graph.specs.Spider.{freshened, after, freshenedEdges, entriesOf, ent
 use Rattle.le.specs.Le.{Below, numberAt, row}
 use Rattle.links.specs.Links.{marked, Linked, spiderRow, spiders}
 use Rattle.spider.specs.Rewriting.{labelled, more, Rewritten, RewrittenEdges, four, ofSources, ofTargets, front, rest, spidered, Counted}
-use Rattle.spider.specs.Stored.{graphOf, Whole}
+use Rattle.form.specs.Stored.{graphOf, Whole}
 use Rattle.form.proofs.Sections.{encode-sections, edgeLabelsOn}
-use Rattle.graph.proofs.Kept.{map-append}
 use Rattle.graph.proofs.Laws.{joined-append, length-edges}
 use Rattle.graph.proofs.Spiders.{keep-append}
 use Rattle.graph.proofs.WriteRead.{length-header}
@@ -28,7 +27,7 @@ use Rattle.spider.proofs.Edges.{fresh-long}
 use Rattle.spider.proofs.Entries.{linked-same, labelled-append, length-labels}
 use Rattle.spider.proofs.Graphs.{sizes-are}
 use Rattle.spider.proofs.Lists.{length-freshened}
-use Rattle.spider.proofs.Walk.{sections-of, node-count, edge-count, globals-below, entries-below}
+use Rattle.form.proofs.Walk.{sections-of, node-count, edge-count, globals-below, entries-below}
 
 -- ---- the labels
 
@@ -83,7 +82,7 @@ module _ {b : List ℕ} {z : Sizes} (w : Whole b z) (W : List ℕ) where
         let n = length (g .labels) in
         let is = keep m (range 0 n) in
         let count : 2 * length is ≡ spiders′ = omega (arith, c .is-spiders, ap (λ (k : ℕ). length (keep m (range 0 k))) (node-count w)) in
-        map-append (freshenedEdges m n (g .edges)) (joined (λ id. leftSpider g (opened m g) id ∷ rightSpider g (opened m g) id ∷ []) is)
+        map-append (λ (e : Edge). e .label) (freshenedEdges m n (g .edges)) (joined (λ id. leftSpider g (opened m g) id ∷ rightSpider g (opened m g) id ∷ []) is)
         ∙ ap (λ (l : List ℕ). l ++ map (λ (e : Edge). e .label) (joined (λ id. leftSpider g (opened m g) id ∷ rightSpider g (opened m g) id ∷ []) is)) (fresh-labels m n (g .edges))
         ∙ ap (λ (l : List ℕ). map (λ (e : Edge). e .label) (g .edges) ++ l) (spider-labels g (opened m g) is ∙ ap (λ (k : ℕ). replicate k spider) count)
 

@@ -14,7 +14,7 @@ use Rattle.graph.specs.Spider.{freshened, after, freshenedEdges, entriesOf, ent
 use Rattle.graph.specs.Answer.{Answer}
 use Rattle.graph.specs.Calls.{Made, made}
 use Rattle.form.specs.declared.Sizes.{Sizes}
-use Rattle.spider.specs.Stored.{graphOf, Whole}
+use Rattle.form.specs.Stored.{graphOf, Whole}
 use Rattle.links.specs.Links.{marked, Linked}
 
 -- the labels of the fresh nodes of these entries, from the bytes of the graph: each that of the node whose entry it was

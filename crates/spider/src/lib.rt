@@ -2,21 +2,20 @@
 // join what the fresh nodes took apart. One pass counts the entries, one writes the labels of the fresh nodes, one rewrites the lists while it numbers the
 // entries and links each fresh node to the one before it of the same node and kind; the spiders are read off these chains.
 ghost use mathlib.Core.Path.{_≡_};
-ghost use mathlib.Core.Bool.{Bool};
-ghost use mathlib.Core.List.{List, [], _∷_, _++_};
-ghost use Prim.Native.Nat.{ℕ, _+_, _*_, _<_, _≤_};
+ghost use mathlib.Core.List.{[], _∷_};
+ghost use Prim.Native.Nat.{_+_, _*_, _<_, _≤_};
 ghost use lib.ListN.{length, drop, replicate};
 ghost use lib.Seq.{sets};
 ghost use Rattle.le.specs.Le.{Below, numberAt, numbers, row};
-ghost use Rattle.graph.specs.Lists.{keep, joined, range};
+ghost use Rattle.graph.specs.Lists.{keep, joined};
 ghost use Rattle.graph.specs.Graph.{form1, spider, edgeEntries};
 ghost use Rattle.graph.specs.Form.{edgeBytes};
 ghost use Rattle.graph.specs.Answer.{laid};
-ghost use Rattle.graph.specs.Spider.{freshened, after, freshenedEdges, entries, spiderizedAt};
-ghost use Rattle.graph.specs.Calls.{inWorkRoom, onGraph, made, spiderizeStep, spiderizeAllStep};
+ghost use Rattle.graph.specs.Spider.{freshened, after, freshenedEdges};
+ghost use Rattle.graph.specs.Calls.{inWorkRoom, onGraph, spiderizeStep, spiderizeAllStep};
 ghost use Rattle.form.specs.Form.{written, edgesAt, listsAt};
 ghost use Rattle.links.specs.Links.{cells, marked, Linked};
-ghost use Rattle.spider.specs.Stored.{graphOf, Whole, sourcesAt, targetsAt, edgeEnd, EdgeAt, portsAt};
+ghost use Rattle.form.specs.Stored.{graphOf, Whole, sourcesAt, targetsAt, EdgeAt, portsAt};
 ghost use Rattle.spider.specs.Rewriting.{labelled, Rewritten, RewrittenEdge, RewrittenEdges, rowOf, front, rest, Counted, spidered, answeredWith};
 use form::Fit;
 use form::Listed;

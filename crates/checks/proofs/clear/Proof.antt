@@ -6,9 +6,9 @@ use native.Mathlib.Nat.{le-antisymm}
 use native.Mathlib.Omega.{arith}
 use lib.ListN.{length, replicate, length-set}
 use lib.Seq.{sets}
-use Rattle.checks.proofs.Fed.{fill-front}
 use Rattle.checks.proofs.clear.Statement.{statement}
 use Rattle.checks.proofs.clear.Tie as tie
+use Rattle.le.proofs.Tables.{fill-front}
 
 abbrev Inv-loop : tie.InvT-loop
 Inv-loop room₀ n k₀ room k = (k ≤ n) × (room ≡ sets room₀ 0 (replicate k 0)) × (length room ≡ length room₀)

@@ -11,7 +11,7 @@ use denote.Ref.{now}
 use borrow.Author.Needs.{needs}
 use borrow.Author.Tests.{not-true, not-false}
 use Rattle.checks.specs.Fed.{Feeds, FedBoth}
-use Rattle.checks.specs.Stored.{sourcesAt, targetsAt, edgeEnd}
+use Rattle.form.specs.Stored.{sourcesAt, targetsAt, edgeEnd}
 use Rattle.le.specs.Le.{Below, numberAt, numbers}
 use Rattle.checks.proofs.Fed.{sources-stop, targets-next}
 use Rattle.checks.proofs.feed_edge.Statement.{statement}

@@ -6,7 +6,7 @@ use native.Mathlib.Omega.{arith}
 use lib.ListN.{length}
 use denote.Ref.{now}
 use Rattle.checks.proofs.Edges.{Sofar, begun, edge-more, edge-stop, edges-ended}
-use Rattle.checks.proofs.Walk.{few, here}
+use Rattle.form.proofs.Walk.{few, here}
 use Rattle.checks.proofs.feed_edges.Statement.{statement}
 use Rattle.checks.proofs.feed_edges.Tie as tie
 

@@ -10,9 +10,8 @@ use denote.Ref.{now}
 use borrow.Author.Tests.{not-true, not-false}
 use Rattle.checks.specs.Fed.{Feeds}
 use Rattle.le.specs.Le.{numberAt, numbers}
-use Rattle.le.proofs.Places.{number-drop}
+use Rattle.le.proofs.Places.{number-drop, read-below}
 use Rattle.checks.proofs.Fed.{list-start, list-turn, list-stop}
-use Rattle.checks.proofs.Walk.{below-at}
 use Rattle.checks.proofs.feed_list.Statement.{statement}
 use Rattle.checks.proofs.feed_list.Tie as tie
 
@@ -30,7 +29,7 @@ read c =
     let s = c .before .before .before .before .before in
     let k = c .before .before .loop .k in
     let e = c .get2 .ensures .0 ∙ sym (number-drop 2 (now (s .args .src)) (s .args .at) (k * 2)) in
-    (e, below-at (s .args .nodes) (s .args .n) (drop (s .args .at) (now (s .args .src))) (s .pre .1) k (omega arith) (c .get2 .result) e)
+    (e, read-below (s .args .nodes) 2 (s .args .n) (drop (s .args .at) (now (s .args .src))) (s .pre .1) k (omega arith) (c .get2 .result) e)
 
 loop-holds : tie.Need-loop-holds Inv-loop μ-loop
 loop-holds c =

@@ -8,7 +8,7 @@ use lib.ListN.{length}
 use denote.Ref.{now}
 use borrow.Author.Needs.{needs}
 use Rattle.checks.specs.Fed.{Fed}
-use Rattle.checks.specs.Stored.{graphOf}
+use Rattle.form.specs.Stored.{graphOf}
 use Rattle.form.specs.Form.{readRefusal}
 use Rattle.form.specs.declared.Checked.the-variants.{Refused}
 use Rattle.graph.specs.Checks.{onceFed}
@@ -16,7 +16,7 @@ use Rattle.form.proofs.Whole.{Stored, stored-graph, stored-limits, unread}
 use Rattle.le.proofs.Numbers.{below-each}
 use Rattle.checks.proofs.Calls.{short-room, not-read, pending, decided}
 use Rattle.checks.proofs.Fed.{fed-cleared}
-use Rattle.checks.proofs.Walk.{whole-of, node-count}
+use Rattle.form.proofs.Walk.{whole-of, node-count}
 use Rattle.checks.proofs.once_fed.Statement.{statement}
 use Rattle.checks.proofs.once_fed.Tie as tie
 

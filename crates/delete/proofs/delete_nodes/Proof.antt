@@ -60,10 +60,10 @@ sized : (c : tie.After-without-nodes) (g : Graph) → graph.read form1 (now (c .
 sized c g p = sym (c .without-nodes .ensures g p ∙ ap sizesOf (gone (c .before .before .before .before) g p))
 
 fits : (c : tie.After-known-told3) (g : Graph) (p : graph.read form1 (now (c .before .before .before .before .before .before .before .before .before .before .before .before .before .before .before .before .before .before .before .before .before .before .before .before .args .src)) ≡ answered g)
-    → Fits (record { graph = deleteNodes (numbers 2 (c .before .before .before .before .before .before .before .before .before .before .before .list .given .0 .0) (now (c .before .before .before .before .before .before .before .before .before .before .before .before .before .before .before .before .before .before .before .before .before .before .before .before .args .ids))) g; id = 0 }) (c .before .before .before .before .without-nodes .result) (sized (c .before .before .before .before) g p) (length (now (c .before .before .before .before .before .before .before .before .before .before .before .before .before .before .before .before .before .before .before .before .before .before .before .before .args .out))) (c .before .fit .given .0 .0)
+    → Fits (record { graph = deleteNodes (numbers 2 (c .before .before .before .before .before .before .before .before .before .before .before .list .given .0 .0) (now (c .before .before .before .before .before .before .before .before .before .before .before .before .before .before .before .before .before .before .before .before .before .before .before .before .args .ids))) g; id = 0 }) (c .before .before .before .before .without-nodes .result) (sized (c .before .before .before .before) g p) (length (now (c .before .before .before .before .before .before .before .before .before .before .before .before .before .before .before .before .before .before .before .before .before .before .before .before .args .out))) (c .before .size .given .0 .0)
 fits c g p =
-    fit-bytes (record { graph = deleteNodes (numbers 2 (c .before .before .before .before .before .before .before .before .before .before .before .list .given .0 .0) (now (c .before .before .before .before .before .before .before .before .before .before .before .before .before .before .before .before .before .before .before .before .before .before .before .before .args .ids))) g; id = 0 }) (c .before .before .before .before .without-nodes .result) (sized (c .before .before .before .before) g p) (length (now (c .before .before .before .before .before .before .before .before .before .before .before .before .before .before .before .before .before .before .before .before .before .before .before .before .args .out))) (c .before .fit .given .0 .0)
-    (sym (c .before .before .before .result-size .ensures) ∙ c .before .fit .given .1)
+    fit-bytes (record { graph = deleteNodes (numbers 2 (c .before .before .before .before .before .before .before .before .before .before .before .list .given .0 .0) (now (c .before .before .before .before .before .before .before .before .before .before .before .before .before .before .before .before .before .before .before .before .before .before .before .before .args .ids))) g; id = 0 }) (c .before .before .before .before .without-nodes .result) (sized (c .before .before .before .before) g p) (length (now (c .before .before .before .before .before .before .before .before .before .before .before .before .before .before .before .before .before .before .before .before .before .before .before .before .args .out))) (c .before .size .given .0 .0)
+    (sym (c .before .before .before .result-size .ensures) ∙ c .before .size .given .1)
 
 returns : tie.Need-returns
 returns c =
@@ -135,8 +135,8 @@ without-nodes-requires c κs =
 result-size-requires : tie.Need-result-size-requires
 result-size-requires c κs = search needs
 
-enum-known-fit : tie.Need-enum-known-fit
-enum-known-fit c = search needs
+enum-known-size : tie.Need-enum-known-size
+enum-known-size c = search needs
 
 enum-told-3 : tie.Need-enum-told-3
 enum-told-3 c = search needs
@@ -249,7 +249,7 @@ delete-nodes-spec =
     mark-requires
     without-nodes-requires
     result-size-requires
-    enum-known-fit
+    enum-known-size
     enum-told-3
     refusal-requires-3
     same-length

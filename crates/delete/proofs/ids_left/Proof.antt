@@ -9,9 +9,8 @@ use lib.Seq.{take-all}
 use denote.Ref.{now}
 use Rattle.delete.specs.Marks.{marked, staying}
 use Rattle.le.specs.Le.{numbers}
-use Rattle.le.proofs.Numbers.{length-numbers}
+use Rattle.le.proofs.Numbers.{length-numbers, below-at}
 use Rattle.delete.proofs.Additive.{next-length, staying-additive}
-use Rattle.delete.proofs.Marks.{below-at}
 use Rattle.delete.proofs.Moves.{one-stays}
 use Rattle.delete.proofs.Staying.{unless-le}
 use Rattle.delete.proofs.Writing.{number-there}

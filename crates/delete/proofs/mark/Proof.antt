@@ -9,9 +9,9 @@ use denote.Ref.{now}
 use Rattle.delete.specs.Marks.{marked}
 use Rattle.graph.specs.Lists.{among}
 use Rattle.le.specs.Le.{numbers}
-use Rattle.le.proofs.Numbers.{length-numbers}
+use Rattle.le.proofs.Numbers.{length-numbers, below-at}
 use Rattle.le.proofs.Places.{getD-numbers}
-use Rattle.delete.proofs.Marks.{unmarked, marked-more, below-at}
+use Rattle.delete.proofs.Marks.{unmarked, marked-more}
 use Rattle.delete.proofs.mark.Statement.{statement}
 use Rattle.delete.proofs.mark.Tie as tie
 

@@ -10,9 +10,8 @@ use denote.Ref.{now}
 use Rattle.delete.specs.Marks.{place, dropped, moved}
 use Rattle.delete.specs.Writes.{Put}
 use Rattle.le.specs.Le.{row, numbers}
-use Rattle.le.proofs.Numbers.{length-numbers}
+use Rattle.le.proofs.Numbers.{length-numbers, below-at}
 use Rattle.delete.proofs.Additive.{write-more, write-fits, ids-additive}
-use Rattle.delete.proofs.Marks.{below-at}
 use Rattle.delete.proofs.Writing.{put-none, put-as, put-length, number-there}
 use Rattle.delete.proofs.put_moved_ids.Statement.{statement}
 use Rattle.delete.proofs.put_moved_ids.Tie as tie

@@ -15,7 +15,7 @@ use Rattle.graph.specs.Lists.{range}
 use Rattle.le.specs.Le.{bytes, row}
 use Rattle.le.proofs.Numbers.{length-row}
 use Rattle.hypergraph.proofs.Parts.{length-head, length-more-edges, part-rest, sets-then}
-use Rattle.hypergraph.proofs.Ranges.{length-range}
+use Rattle.graph.proofs.Lists.{length-range}
 use Rattle.hypergraph.proofs.put_new_operation.Statement.{statement}
 use Rattle.hypergraph.proofs.put_new_operation.Tie as tie
 

@@ -8,9 +8,9 @@ use lib.ListN.{length, replicate}
 use lib.Seq.{sets}
 use denote.Ref.{now}
 use Rattle.links.specs.Links.{cells}
-use Rattle.links.proofs.Cells.{fill-front}
 use Rattle.links.proofs.fill.Statement.{statement}
 use Rattle.links.proofs.fill.Tie as tie
+use Rattle.le.proofs.Tables.{fill-front}
 
 abbrev Inv-loop : tie.InvT-loop
 Inv-loop room₀ n v k₀ room k = (k ≤ n) × (cells room ≡ sets (cells room₀) 0 (replicate k v)) × (length room ≡ length room₀)

@@ -10,9 +10,10 @@ use denote.Ref.{now}
 use Rattle.graph.specs.Lists.{among}
 use Rattle.le.specs.Le.{numberAt, numbers}
 use Rattle.links.specs.Links.{cells, Heads}
-use Rattle.links.proofs.Cells.{below-at, list-more, length-cells}
+use Rattle.links.proofs.Cells.{list-more, length-cells}
 use Rattle.links.proofs.list_ids.Statement.{statement}
 use Rattle.links.proofs.list_ids.Tie as tie
+use Rattle.le.proofs.Places.{read-below}
 
 abbrev Inv-loop : tie.InvT-loop
 Inv-loop room₀ ids n nodes j₀ room j = (j ≤ n) × (length room ≡ length room₀) × (Heads nodes (cells room₀) (λ x. false) → Heads nodes (cells room) (among (numbers 2 j ids)))
@@ -38,7 +39,7 @@ read : (c : tie.After-get2 Inv-loop μ-loop)
 read c =
     let S = c .before .before .before .before .before in
     let e = c .get2 .ensures .0 in
-    (e, below-at (S .args .nodes) (S .args .n) (now (S .args .ids)) (S .pre .1) (c .before .before .loop .j) (omega arith) (c .get2 .result) e)
+    (e, read-below (S .args .nodes) 2 (S .args .n) (now (S .args .ids)) (S .pre .1) (c .before .before .loop .j) (omega arith) (c .get2 .result) e)
 
 list-one-requires : tie.Need-list-one-requires Inv-loop μ-loop
 list-one-requires c κs = let q = read (c .before) .1 in omega arith

@@ -14,7 +14,7 @@ use Rattle.graph.specs.Graph.{form1}
 use Rattle.graph.specs.Lists.{range}
 use Rattle.le.specs.Le.{row}
 use Rattle.hypergraph.proofs.Parts.{sets-then}
-use Rattle.hypergraph.proofs.Ranges.{length-range}
+use Rattle.graph.proofs.Lists.{length-range}
 use Rattle.le.proofs.Numbers.{length-row}
 use Rattle.open_hypergraph.proofs.put_identity.Statement.{statement}
 use Rattle.open_hypergraph.proofs.put_identity.Tie as tie

@@ -8,7 +8,7 @@ use lib.ListN.{length, getD, take}
 use Rattle.choice.specs.Arcs.{has}
 use Rattle.incidence.specs.Tables.{ends}
 use Rattle.le.specs.Le.{words}
-use Rattle.removal.specs.Engine.{Room, live, entry, candidatesAt, Lowered}
+use Rattle.removal.specs.Engine.{Room, live, candidatesAt, Lowered}
 use Rattle.le.proofs.Places.{length-words}
 use Rattle.removal.proofs.Lowering.{lowered-start, lowered-turn, lowered-done, next-is, next-low, next-fits, held-here, ends-length}
 use Rattle.removal.proofs.lower_all.Statement.{statement}

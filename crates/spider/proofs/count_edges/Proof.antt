@@ -10,9 +10,9 @@ use Rattle.graph.specs.Graph.{Edge, edgeEntries}
 use Rattle.graph.specs.Lists.{keep}
 use Rattle.le.specs.Le.{numbers}
 use Rattle.links.specs.Links.{cells, marked}
-use Rattle.spider.specs.Stored.{graphOf}
+use Rattle.form.specs.Stored.{graphOf}
 use Rattle.spider.proofs.Edges.{count-turn}
-use Rattle.spider.proofs.Walk.{At, start, here, few, all-edges, edge-read}
+use Rattle.form.proofs.Walk.{At, start, here, few, all-edges, edge-read}
 use Rattle.spider.proofs.count_edges.Statement.{statement}
 use Rattle.spider.proofs.count_edges.Tie as tie
 

@@ -9,9 +9,8 @@ use denote.Ref.{now}
 use Rattle.graph.specs.Lists.{keep}
 use Rattle.le.specs.Le.{numberAt, numbers}
 use Rattle.links.specs.Links.{cells, marked}
-use Rattle.le.proofs.Places.{number-drop}
+use Rattle.le.proofs.Places.{number-drop, read-below}
 use Rattle.spider.proofs.Lists.{keep-more}
-use Rattle.spider.proofs.Walk.{below-at}
 use Rattle.spider.proofs.count_list.Statement.{statement}
 use Rattle.spider.proofs.count_list.Tie as tie
 
@@ -44,7 +43,7 @@ read c =
     let a = S .args in
     let k = c .before .before .loop .k in
     let e = c .get2 .ensures .0 ∙ sym (number-drop 2 (now (a .src)) (a .at) (k * 2)) in
-    (e, below-at (a .nodes) (a .n) (drop (a .at) (now (a .src))) (S .pre .1) k (omega arith) (c .get2 .result) e)
+    (e, read-below (a .nodes) 2 (a .n) (drop (a .at) (now (a .src))) (S .pre .1) k (omega arith) (c .get2 .result) e)
 
 one-if-listed-requires : tie.Need-one-if-listed-requires Inv-loop μ-loop
 one-if-listed-requires c κs = omega (arith, read c .1)

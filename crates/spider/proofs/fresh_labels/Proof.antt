@@ -12,10 +12,10 @@ use Rattle.graph.specs.Lists.{keep}
 use Rattle.le.specs.Le.{numberAt, numbers, row}
 use Rattle.links.specs.Links.{cells, marked}
 use Rattle.spider.specs.Rewriting.{labelled}
-use Rattle.le.proofs.Places.{number-drop}
+use Rattle.le.proofs.Places.{number-drop, read-below}
 use Rattle.spider.proofs.Entries.{labels-turn}
 use Rattle.spider.proofs.Lists.{ids-more, keep-room}
-use Rattle.spider.proofs.Walk.{start, below-at}
+use Rattle.form.proofs.Walk.{start}
 use Rattle.spider.proofs.fresh_labels.Statement.{statement}
 use Rattle.spider.proofs.fresh_labels.Tie as tie
 
@@ -49,7 +49,7 @@ read c =
     let a = S .args in
     let k = c .before .before .loop .k in
     let e = c .get2 .ensures .0 ∙ sym (number-drop 2 (now (a .src)) (a .at) (k * 2)) in
-    (e, below-at (a .nodes) (a .n) (drop (a .at) (now (a .src))) (S .pre .1) k (omega arith) (c .get2 .result) e)
+    (e, read-below (a .nodes) 2 (a .n) (drop (a .at) (now (a .src))) (S .pre .1) k (omega arith) (c .get2 .result) e)
 
 fresh-label-requires : tie.Need-fresh-label-requires Inv-loop μ-loop
 fresh-label-requires c κs =

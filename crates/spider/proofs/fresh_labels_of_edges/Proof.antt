@@ -12,10 +12,10 @@ use Rattle.graph.specs.Lists.{keep}
 use Rattle.le.specs.Le.{numbers, row}
 use Rattle.links.specs.Links.{cells, marked}
 use Rattle.spider.specs.Rewriting.{labelled}
-use Rattle.spider.specs.Stored.{graphOf}
+use Rattle.form.specs.Stored.{graphOf}
 use Rattle.spider.proofs.Edges.{count-room}
 use Rattle.spider.proofs.Entries.{labels-turn}
-use Rattle.spider.proofs.Walk.{At, start, here, few, entries-more, all-edges, long, edge-read}
+use Rattle.form.proofs.Walk.{At, start, here, few, entries-more, all-edges, long, edge-read}
 use Rattle.spider.proofs.fresh_labels_of_edges.Statement.{statement}
 use Rattle.spider.proofs.fresh_labels_of_edges.Tie as tie
 

@@ -12,10 +12,10 @@ use Rattle.graph.specs.Lists.{keep}
 use Rattle.le.specs.Le.{Below, row}
 use Rattle.links.specs.Links.{cells, marked}
 use Rattle.spider.specs.Rewriting.{labelled}
-use Rattle.spider.specs.Stored.{graphOf}
+use Rattle.form.specs.Stored.{graphOf}
 use Rattle.le.proofs.Numbers.{below-append}
 use Rattle.spider.proofs.Parts.{fresh-two, front-done}
-use Rattle.spider.proofs.Walk.{globals-below, long, limits, globals-read}
+use Rattle.form.proofs.Walk.{globals-below, long, limits, globals-read}
 use Rattle.spider.proofs.put_front.Statement.{statement}
 use Rattle.spider.proofs.put_front.Tie as tie
 

@@ -14,10 +14,10 @@ use Rattle.graph.specs.Spider.{freshened, after}
 use Rattle.le.specs.Le.{Below, numberAt, numbers, row}
 use Rattle.links.specs.Links.{cells, marked}
 use Rattle.spider.specs.Rewriting.{Rewritten}
-use Rattle.spider.specs.Stored.{sourcesAt, targetsAt}
+use Rattle.form.specs.Stored.{sourcesAt, targetsAt}
 use Rattle.le.proofs.Numbers.{length-numbers}
 use Rattle.spider.proofs.Edges.{edge-done}
-use Rattle.spider.proofs.Walk.{first-list, second-list}
+use Rattle.form.proofs.Walk.{first-list, second-list}
 use Rattle.spider.proofs.rewrite_edge.Statement.{statement}
 use Rattle.spider.proofs.rewrite_edge.Tie as tie
 

@@ -13,9 +13,9 @@ use Rattle.graph.specs.Lists.{joined}
 use Rattle.graph.specs.Spider.{after, freshenedEdges}
 use Rattle.links.specs.Links.{cells, marked}
 use Rattle.spider.specs.Rewriting.{RewrittenEdges}
-use Rattle.spider.specs.Stored.{graphOf}
+use Rattle.form.specs.Stored.{graphOf}
 use Rattle.spider.proofs.Edges.{edge-room, Sofar, sofar-start, sofar-turn}
-use Rattle.spider.proofs.Walk.{At, start, here, few, all-edges, edge-read}
+use Rattle.form.proofs.Walk.{At, start, here, few, all-edges, edge-read}
 use Rattle.spider.proofs.rewrite_edges.Statement.{statement}
 use Rattle.spider.proofs.rewrite_edges.Tie as tie
 

@@ -12,10 +12,10 @@ use Rattle.graph.specs.Lists.{keep}
 use Rattle.le.specs.Le.{numberAt, numbers}
 use Rattle.links.specs.Links.{cells, marked}
 use Rattle.le.proofs.Numbers.{length-numbers}
-use Rattle.le.proofs.Places.{number-drop}
+use Rattle.le.proofs.Places.{number-drop, read-below}
 use Rattle.spider.proofs.Entries.{Sofar, sofar-start, sofar-turn}
 use Rattle.spider.proofs.Lists.{ids-more, keep-room}
-use Rattle.spider.proofs.Walk.{start, below-at}
+use Rattle.form.proofs.Walk.{start}
 use Rattle.spider.proofs.rewrite_list.Statement.{statement}
 use Rattle.spider.proofs.rewrite_list.Tie as tie
 
@@ -53,7 +53,7 @@ rewrite-occurrence-requires c κs =
     let m = l .inv .3 .table .marks in
     let W = cells (now (a .room)) in
     let fits : l .next + length (keep (marked (a .nodes) W) (x ∷ [])) ≤ 2048 = omega (arith, l .inv .3 .number, S .pre .4, keep-room (marked (a .nodes) W) D (a .n) (l .k) x less e) in
-    (omega arith, below-at (a .nodes) (a .n) D (S .pre .1) (l .k) less x e, S .pre .2, omega (arith, l .inv .3 .number, S .pre .3), subst (λ (p : ℕ → Bool). l .next + length (keep p (x ∷ [])) ≤ 2048) (sym m) fits, omega (arith, S .pre .5, l .inv .1), omega (arith, S .pre .6, l .inv .2))
+    (omega arith, read-below (a .nodes) 2 (a .n) D (S .pre .1) (l .k) less x e, S .pre .2, omega (arith, l .inv .3 .number, S .pre .3), subst (λ (p : ℕ → Bool). l .next + length (keep p (x ∷ [])) ≤ 2048) (sym m) fits, omega (arith, S .pre .5, l .inv .1), omega (arith, S .pre .6, l .inv .2))
 
 add-k : tie.Need-add-k Inv-loop μ-loop
 add-k c = omega arith

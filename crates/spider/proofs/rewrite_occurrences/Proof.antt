@@ -16,9 +16,9 @@ use Rattle.graph.specs.Spider.{freshened, after}
 use Rattle.le.specs.Le.{Below, row}
 use Rattle.links.specs.Links.{cells, marked, spiders, spiderRow}
 use Rattle.spider.specs.Rewriting.{Rewritten}
-use Rattle.spider.specs.Stored.{graphOf}
+use Rattle.form.specs.Stored.{graphOf}
 use Rattle.spider.proofs.Parts.{numbers-fit, spiders-long, places, rest-is, parts, marks₃, rest-done, all-linked, allFresh}
-use Rattle.spider.proofs.Walk.{limits, sources-read, targets-read, start, globals-below, long}
+use Rattle.form.proofs.Walk.{limits, sources-read, targets-read, start, globals-below, long}
 use Rattle.spider.proofs.rewrite_occurrences.Statement.{statement}
 use Rattle.spider.proofs.rewrite_occurrences.Tie as tie
 

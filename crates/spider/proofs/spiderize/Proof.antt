@@ -18,7 +18,7 @@ use Rattle.form.proofs.Whole.{Stored, stored-graph, stored-limits, unread}
 use Rattle.graph.proofs.Verdicts.{call-unread}
 use Rattle.le.proofs.Numbers.{below-each}
 use Rattle.spider.proofs.Calls.{short-room, enough-room, listed-all, all-call, call-all-8}
-use Rattle.spider.proofs.Walk.{whole-of}
+use Rattle.form.proofs.Walk.{whole-of}
 use Rattle.spider.proofs.spiderize.Statement.{statement}
 use Rattle.spider.proofs.spiderize.Tie as tie
 

@@ -19,7 +19,7 @@ use Rattle.form.proofs.Whole.{Stored, stored-graph, stored-limits, unread}
 use Rattle.graph.proofs.Verdicts.{call-unread}
 use Rattle.le.proofs.Numbers.{below-each}
 use Rattle.spider.proofs.Calls.{short-room, enough-room, list-refused, Ids, list-read, listed-ids, nodes-call, call-7, call-8}
-use Rattle.spider.proofs.Walk.{long, whole-of}
+use Rattle.form.proofs.Walk.{long, whole-of}
 use Rattle.spider.proofs.spiderize_nodes.Statement.{statement}
 use Rattle.spider.proofs.spiderize_nodes.Tie as tie
 

@@ -15,11 +15,11 @@ use Rattle.graph.specs.Spider.{entries}
 use Rattle.le.specs.Le.{Below, numbers}
 use Rattle.links.specs.Links.{cells, marked}
 use Rattle.spider.specs.Rewriting.{spidered, answeredWith, Counted}
-use Rattle.spider.specs.Stored.{graphOf}
+use Rattle.form.specs.Stored.{graphOf}
 use Rattle.form.proofs.Calls.{gives-refused, gives-done}
 use Rattle.le.proofs.Numbers.{below-append}
 use Rattle.spider.proofs.Calls.{fresh-is, too-large, fits, written-whole, few-listed}
-use Rattle.spider.proofs.Walk.{globals-below, long, limits, globals-read}
+use Rattle.form.proofs.Walk.{globals-below, long, limits, globals-read}
 use Rattle.spider.proofs.write_spiderized.Statement.{statement}
 use Rattle.spider.proofs.write_spiderized.Tie as tie
 

@@ -2,7 +2,7 @@
 -- Assumes nothing.
 use Prim.Native.Nat.{ℕ, _+_, _*_, _≤_}
 use mathlib.Core.Path.{_≡_}
-use mathlib.Core.List.{List, _++_}
+use mathlib.Core.List.{List}
 use lib.ListN.{length, drop}
 use Rattle.le.specs.Le.{Below, numberAt, numbers}
 use Rattle.graph.specs.Graph.{Graph, form1, WellFormed}
@@ -39,3 +39,10 @@ pub record EdgeAt (b : List ℕ) (at nodes : ℕ) : Type 0 where
   pub inside : edgeEnd b at ≤ length b
   pub sources : Below nodes (sourcesAt b at)
   pub targets : Below nodes (targetsAt b at)
+
+-- how many entries the edge at a place has, and these entries
+abbrev pub portsAt : List ℕ → ℕ → ℕ
+portsAt b at = numberAt 2 b at + numberAt 2 b (at + 2)
+
+abbrev pub entriesAt : List ℕ → ℕ → List ℕ
+entriesAt b at = numbers 2 (portsAt b at) (drop (at + 4) b)
