@@ -18,6 +18,8 @@ use Rattle.form.specs.declared.Step.{Step}
 use Rattle.form.specs.declared.Step.the-variants as step
 use Rattle.form.specs.declared.Listed.{Listed}
 use Rattle.form.specs.declared.Listed.the-variants as list
+use Rattle.form.specs.declared.Named.{Named}
+use Rattle.form.specs.declared.Named.the-variants as name
 use Rattle.form.specs.declared.Checked.{Checked}
 use Rattle.form.specs.declared.Checked.the-variants as check
 use Rattle.form.specs.declared.Fit.{Fit}
@@ -77,6 +79,11 @@ abbrev pub listed : Answer (List ℕ) → Listed
 listed (refused n) = list.Refused (refusal n)
 listed (answered xs) = list.Entries (length xs)
 
+-- a single id in a call: the id
+abbrev pub named : Answer ℕ → Named
+named (refused n) = name.Refused (refusal n)
+named (answered id) = name.Id id
+
 -- the places of the edges and of the global lists in a form
 abbrev pub edgesAt : ℕ → ℕ → ℕ
 edgesAt nodes edges = 15 + (nodes + edges) * 4
@@ -118,6 +125,10 @@ stepRefusal (step.Refused x) = x
 abbrev pub listRefusal : Listed → Refusal
 listRefusal (list.Entries n) = refusal 0
 listRefusal (list.Refused x) = x
+
+abbrev pub nameRefusal : Named → Refusal
+nameRefusal (name.Id n) = refusal 0
+nameRefusal (name.Refused x) = x
 
 abbrev pub fitRefusal : Fit → Refusal
 fitRefusal (fit.Bytes n) = refusal 0

@@ -12,6 +12,8 @@ ghost use Rattle.graph.specs.Answer.{laid};
 ghost use Rattle.graph.specs.Read as form;
 ghost use Rattle.graph.specs.Read.{countsAt, readCounts, readEdge, readEdges, readLists, readBody};
 ghost use Rattle.graph.specs.Calls.{onGraph, rewriteStep, readCall, idList, labelList};
+ghost use Rattle.graph.specs.Calls as calls;
+ghost use Rattle.form.specs.Form.{named, nameRefusal};
 ghost use Rattle.form.specs.Reach.{reach};
 ghost use Rattle.form.specs.Form.{counted, sized, countsOf, headed, reading, edgeStep, edgesStep, listed, written, stored, readRefusal, stepRefusal, listRefusal, fitRefusal, edgesAt, listsAt, fitted};
 
@@ -323,6 +325,34 @@ pub fn label_list(labels: &[u8]) -> Listed
         return Listed::Refused(Refusal { no: 7 });
     }
     Listed::Entries(labels.len() / 4)
+}
+
+// What checking a single id in a call answers: the id.
+pub enum Named {
+    Id(usize),
+    Refused(Refusal),
+}
+
+impl Named {
+    // The refusal to pass on.
+    pub fn refusal(self) -> Refusal
+        ensures { λ r. ⌜ r ≡ nameRefusal self ⌝ }
+    {
+        match self {
+            Named::Id(_) => Refusal { no: 0 },
+            Named::Refused(x) => x,
+        }
+    }
+}
+
+// A single id: 7 if it is not below the count.
+pub fn known(id: u32, count: usize) -> Named
+    ensures { λ r. ⌜ r ≡ named (calls.known count id) ⌝ }
+{
+    if count <= id as usize {
+        return Named::Refused(Refusal { no: 7 });
+    }
+    Named::Id(id as usize)
 }
 
 // What checking a result's size answers: the bytes of its form.

@@ -37,7 +37,7 @@ pub record Keeps (step : Graph → Answer Next) : Type 0 where
 
 -- ---- 7: what a list and an id in a call are
 
-known-below : (count id x : ℕ) → known count id ≡ answered x → x < count
+pub known-below : (count id x : ℕ) → known count id ≡ answered x → x < count
 unfolding known
 known-below count id x p =
     let p₁ = passed _ _ _ p in

@@ -2,11 +2,10 @@
 -- Assumes nothing.
 use mathlib.Core.List.{List}
 use mathlib.Core.Path.{_≡_, refl, sym, ap, _∙_}
-use Prim.Native.Nat.{ℕ, _≤_, _<_}
+use Prim.Native.Nat.{ℕ}
 use lib.ListN.{length}
-use borrow.Author.Tests.{lt-ltb, le-ltb}
 use Rattle.form.specs.declared.Sizes.{Sizes}
-use Rattle.graph.specs.Answer.{refused, answered, _else_, _>>_}
+use Rattle.graph.specs.Answer.{refused, answered}
 use Rattle.graph.specs.Build.{empty, discrete, newNode, newEdge, newOperation, unify}
 use Rattle.graph.specs.Calls.{Next, made, known, labelList, idList, onNothing, onGraph, emptyStep, discreteStep, newNodeStep, newEdgeStep, newOperationStep, unifyStep}
 use Rattle.graph.specs.Graph.{Graph, form1}
@@ -17,15 +16,6 @@ use Rattle.graph.proofs.Verdicts.{call-made, call-stopped, nothing-made, nothin
 -- a step's graph and its id
 abbrev pub next : Graph → ℕ → Next
 next g id = record { graph = g; id = id }
-
--- an id not below its count, and one below it
-pub unknown : (count id : ℕ) → count ≤ id → known count id ≡ refused 7
-unfolding known _else_ _>>_
-unknown count id h = rw (le-ltb id count h)
-
-pub known-id : (count id : ℕ) → id < count → known count id ≡ answered id
-unfolding known _else_ _>>_
-known-id count id h = rw (lt-ltb id count h)
 
 -- ---- from nothing
 
@@ -57,20 +47,18 @@ module _ (b : List ℕ) (room : ℕ) (z : Sizes) (s : Stored b z) where
   new-node-made label = call-made form1 b room (newNodeStep label) (s .graph) (s .read-as) _ (ap (λ n. answered (next (newNode label (s .graph)) n)) nodes-are)
 
   module _ (v w : ℕ) where
-    pub unify-first-7 : z .nodes ≤ v → onGraph form1 b room (unifyStep v w) ≡ refused 7
+    pub unify-first-7 : (n : ℕ) → known (z .nodes) v ≡ refused n → onGraph form1 b room (unifyStep v w) ≡ refused n
     unfolding unifyStep
-    unify-first-7 h = call-stopped form1 b room (unifyStep v w) (s .graph) (s .read-as) 7 (rw nodes-are (stops _ (unknown (z .nodes) v h)))
+    unify-first-7 n e = call-stopped form1 b room (unifyStep v w) (s .graph) (s .read-as) n (rw nodes-are (stops _ e))
 
-    module _ (h : v < z .nodes) where
-      pub unify-second-7 : z .nodes ≤ w → onGraph form1 b room (unifyStep v w) ≡ refused 7
+    module _ (x : ℕ) (p : known (z .nodes) v ≡ answered x) where
+      pub unify-second-7 : (n : ℕ) → known (z .nodes) w ≡ refused n → onGraph form1 b room (unifyStep v w) ≡ refused n
       unfolding unifyStep
-      unify-second-7 k =
-          call-stopped form1 b room (unifyStep v w) (s .graph) (s .read-as) 7 (rw nodes-are (goes _ (known-id (z .nodes) v h) ∙ stops _ (unknown (z .nodes) w k)))
+      unify-second-7 n e = call-stopped form1 b room (unifyStep v w) (s .graph) (s .read-as) n (rw nodes-are (goes _ p ∙ stops _ e))
 
-      pub unify-made : w < z .nodes → onGraph form1 b room (unifyStep v w) ≡ made form1 room (next (unify v w (s .graph)) 0)
+      pub unify-made : (y : ℕ) → known (z .nodes) w ≡ answered y → onGraph form1 b room (unifyStep v w) ≡ made form1 room (next (unify x y (s .graph)) 0)
       unfolding unifyStep
-      unify-made k =
-          call-made form1 b room (unifyStep v w) (s .graph) (s .read-as) _ (rw nodes-are (goes _ (known-id (z .nodes) v h) ∙ goes _ (known-id (z .nodes) w k)))
+      unify-made y q = call-made form1 b room (unifyStep v w) (s .graph) (s .read-as) _ (rw nodes-are (goes _ p ∙ goes _ q))
 
   module _ (label : ℕ) (sources targets : List ℕ) where
     pub new-edge-sources-7 : (n : ℕ) → idList form1 (z .nodes) sources ≡ refused n → onGraph form1 b room (newEdgeStep form1 label sources targets) ≡ refused n

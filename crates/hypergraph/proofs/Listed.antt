@@ -1,20 +1,23 @@
--- What a list in a call that was looked at is: refused, or a row of entries.
+-- What a list or an id in a call that was looked at is: refused, or a row of entries, or an id below its count.
 -- Assumes nothing.
 use mathlib.Core.List.{List, [], _++_, append-nil}
 use mathlib.Core.Path.{_≡_, refl, sym, ap, _∙_}
-use Prim.Native.Nat.{ℕ, _*_, _/_, _%_}
+use Prim.Native.Nat.{ℕ, _*_, _/_, _%_, _<_}
 use native.Mathlib.Omega.{arith}
 use lib.ListN.{length, drop}
 use lib.Seq.{drop-length}
 use borrow.Author.Tests.{eqb-true}
-use Rattle.form.specs.Form.{refusal, listed}
+use Rattle.form.specs.Form.{refusal, listed, named}
 use Rattle.form.specs.declared.Listed.the-variants.{Entries, Refused}
 use Rattle.form.specs.declared.Listed.{Listed}
+use Rattle.form.specs.declared.Named.the-variants as name
+use Rattle.form.specs.declared.Named.{Named}
 use Rattle.form.specs.declared.Refusal.{Refusal}
 use Rattle.graph.specs.Answer.{Answer, refused, answered}
-use Rattle.graph.specs.Calls.{labelList, idList}
+use Rattle.graph.specs.Calls.{known, labelList, idList}
 use Rattle.graph.specs.Graph.{form1}
 use Rattle.le.specs.Le.{Below, row, numbers}
+use Rattle.graph.proofs.Answers.{known-below}
 use Rattle.graph.proofs.Steps.{same-answer, passed}
 use Rattle.le.proofs.Numbers.{length-numbers, rejoin}
 
@@ -94,3 +97,27 @@ module _ (b : List ℕ) (t : Below 256 b) (r : Listed) (n : ℕ) (is : r ≡ Ent
             long = long;
             row-is = ap (row 2) (sym same) ∙ whole 2 (length b / 2) b t (omega arith);
           }
+
+-- ---- a single id
+
+pub unnamed : (a : Answer ℕ) (r : Named) → r ≡ named a → (x : Refusal) → r ≡ name.Refused x → a ≡ refused (x .no)
+unnamed (refused n) r k x e =
+    let q : name.Refused x ≡ named (refused n) = sym e ∙ k in
+    let same : x ≡ refusal n = cc in
+    ap refused (sym (ap (λ (y : Refusal). y .no) same))
+unnamed (answered id) r k x e =
+    let q : name.Refused x ≡ named (answered id) = sym e ∙ k in
+    let o : _≡_ {A = ℕ} 0 1 = cc in absurd (omega arith)
+
+pub id-named : (count id : ℕ) (r : Named) → r ≡ named (known count id) → (x : ℕ) → r ≡ name.Id x → (known count id ≡ answered x) × (x < count)
+id-named count id r k x e = look (known count id) refl
+  where
+    look : (a : Answer ℕ) → known count id ≡ a → (known count id ≡ answered x) × (x < count)
+    look (refused m) p =
+        let q : name.Id x ≡ named (refused m) = sym e ∙ k ∙ ap named p in
+        let o : _≡_ {A = ℕ} 0 1 = cc in absurd (omega arith)
+    look (answered y) p =
+        let q : name.Id x ≡ named (answered y) = sym e ∙ k ∙ ap named p in
+        let same : y ≡ x = cc in
+        let is : known count id ≡ answered x = p ∙ ap answered same in
+        (is, known-below count id x is)

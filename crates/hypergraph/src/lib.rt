@@ -13,6 +13,7 @@ ghost use Rattle.graph.specs.Calls.{onNothing, onGraph, emptyStep, discreteStep
 ghost use Rattle.form.specs.Form.{countsOf, written, edgesAt, listsAt};
 use form::Fit;
 use form::Listed;
+use form::Named;
 use form::Reading;
 use form::Refusal;
 use form::Sizes;
@@ -202,12 +203,14 @@ pub fn unify(src: &[u8], v: u32, w: u32, out: &mut [u8]) -> Written
     let Reading::Sized(z) = graph else {
         return Written::Refused(graph.refusal());
     };
-    if z.nodes <= v as usize {
-        return Written::Refused(Refusal { no: 7 });
-    }
-    if z.nodes <= w as usize {
-        return Written::Refused(Refusal { no: 7 });
-    }
+    let first = form::known(v, z.nodes);
+    let Named::Id(a) = first else {
+        return Written::Refused(first.refusal());
+    };
+    let second = form::known(w, z.nodes);
+    let Named::Id(b) = second else {
+        return Written::Refused(second.refusal());
+    };
     let y = Sizes {
         nodes: z.nodes,
         edges: z.edges,
@@ -220,7 +223,7 @@ pub fn unify(src: &[u8], v: u32, w: u32, out: &mut [u8]) -> Written
     let Fit::Bytes(bytes) = fit else {
         return Written::Refused(fit.refusal());
     };
-    put_unified(out, src, y, v as usize, w as usize);
+    put_unified(out, src, y, a, b);
     Written::Done { bytes, id: 0 }
 }
 

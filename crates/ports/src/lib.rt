@@ -14,8 +14,8 @@ ghost use Rattle.graph.specs.Calls.{onGraph, addEdgeSourceStep, addEdgeTargetSt
 ghost use Rattle.form.specs.Form.{written, edgesAt};
 ghost use Rattle.ports.specs.Reads.{Reads};
 use form::Fit;
+use form::Named;
 use form::Reading;
-use form::Refusal;
 use form::Sizes;
 use form::Written;
 
@@ -72,9 +72,10 @@ pub fn add_edge_source(src: &[u8], edge: u32, label: u32, out: &mut [u8]) -> Wri
     let Reading::Sized(z) = graph else {
         return Written::Refused(graph.refusal());
     };
-    if z.edges <= edge as usize {
-        return Written::Refused(Refusal { no: 7 });
-    }
+    let one = form::known(edge, z.edges);
+    let Named::Id(i) = one else {
+        return Written::Refused(one.refusal());
+    };
     let y = Sizes {
         nodes: z.nodes + 1,
         edges: z.edges,
@@ -87,7 +88,7 @@ pub fn add_edge_source(src: &[u8], edge: u32, label: u32, out: &mut [u8]) -> Wri
     let Fit::Bytes(bytes) = fit else {
         return Written::Refused(fit.refusal());
     };
-    let at = edge_at(src, z, edge as usize);
+    let at = edge_at(src, z, i);
     let sources = le::get2(src, at) as usize;
     let targets = le::get2(src, at + form::WIDTH) as usize;
     let before = sources;
@@ -114,9 +115,10 @@ pub fn add_edge_target(src: &[u8], edge: u32, label: u32, out: &mut [u8]) -> Wri
     let Reading::Sized(z) = graph else {
         return Written::Refused(graph.refusal());
     };
-    if z.edges <= edge as usize {
-        return Written::Refused(Refusal { no: 7 });
-    }
+    let one = form::known(edge, z.edges);
+    let Named::Id(i) = one else {
+        return Written::Refused(one.refusal());
+    };
     let y = Sizes {
         nodes: z.nodes + 1,
         edges: z.edges,
@@ -129,7 +131,7 @@ pub fn add_edge_target(src: &[u8], edge: u32, label: u32, out: &mut [u8]) -> Wri
     let Fit::Bytes(bytes) = fit else {
         return Written::Refused(fit.refusal());
     };
-    let at = edge_at(src, z, edge as usize);
+    let at = edge_at(src, z, i);
     let sources = le::get2(src, at) as usize;
     let targets = le::get2(src, at + form::WIDTH) as usize;
     let before = sources + targets;
