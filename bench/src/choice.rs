@@ -1,17 +1,15 @@
 //! The choice of cycle-breaking nodes, and the no-loop check.
 
-use crate::drawings::FAMILIES;
-use crate::sides::BESIDE;
-use crate::stored::decode;
-use crate::table::Table;
-use crate::timing::Side;
+use crate::drawings::{several, size, FAMILIES};
+use crate::sides::{answered, check_times, ORIGINAL, PLAIN_CHECK};
+use crate::stored::{decode, decode_all};
+use crate::table::{mean, yes_or_no, Table};
+use crate::timing::{medians, Side};
 use differential::convert::Graph;
-use differential::form::{self, id_bytes, MOST_NODES};
-use differential::rng::Rng;
+use differential::form::{id_bytes, MOST_NODES};
 use differential::rooms::Rooms;
 use differential::rows::choice::definition;
-use oracle::lax::cycle;
-use std::hint::black_box;
+use oracle::lax::{cycle, NodeId};
 
 mod exported {
     extern "C" {
@@ -50,30 +48,37 @@ const NODES: [usize; 3] = [50, 500, 2048];
 
 pub fn measure(rooms: &Rooms) -> Result<(), String> {
     let mut room = vec![0; rooms.of("ohg_cycle_breaking_nodes")?];
-    let words = ["family", "nodes", "ports", "chosen"];
-    let table = Table::begin("`ohg_cycle_breaking_nodes`", &words, &BESIDE);
-    measure_families(table, |table, words, form| {
-        measure_choice(table, words, form, &mut room);
+    let words = ["family", "nodes", "ports", "chosen (mean)"];
+    let table = Table::begin("`ohg_cycle_breaking_nodes`", &words, &ORIGINAL);
+    let number = |graphs: &[Graph]| mean(graphs.iter().map(|graph| chosen(graph).len()));
+    measure_families(table, number, |forms| {
+        cycle_breaking_nodes(forms, &mut room)
     });
 
     let mut room = vec![0; rooms.of("ohg_no_loop")?];
-    let beside = ["plain check (decoded)", "plain check (stored)"];
     let words = ["family", "nodes", "ports", "answer"];
-    let table = Table::begin("`ohg_no_loop`", &words, &beside);
-    measure_families(table, |table, words, form| {
-        measure_no_loop(table, words, form, &mut room);
-    });
+    let table = Table::begin("`ohg_no_loop`", &words, &PLAIN_CHECK);
+    let answers = |graphs: &[Graph]| yes_or_no(graphs.iter().map(definition::no_loop));
+    measure_families(table, answers, |forms| no_loop(forms, &mut room));
     Ok(())
 }
 
-/// Measures each family at each size, and prints the means over the families.
-fn measure_families(mut table: Table, mut row: impl FnMut(&mut Table, Vec<String>, &[u8])) {
+/// Measures each family at each size, and prints the means over the families. What is answered is told in words.
+fn measure_families(
+    mut table: Table,
+    answers: impl Fn(&[Graph]) -> String,
+    mut times: impl FnMut(&[Vec<u8>]) -> Vec<f64>,
+) {
     for nodes in NODES {
         for (name, family) in FAMILIES {
-            let drawing = family(&mut Rng::new(1), nodes);
-            let ports = drawing.sizes().ports;
-            let words = vec![name.to_string(), nodes.to_string(), ports.to_string()];
-            row(&mut table, words, &form::write(&drawing));
+            let forms = several(|rng| family(rng, nodes));
+            let words = [
+                name.to_string(),
+                nodes.to_string(),
+                (size(&forms[0]) - nodes).to_string(),
+                answers(&decode_all(&forms)),
+            ];
+            table.row(&words, &times(&forms));
         }
     }
     for (i, nodes) in NODES.iter().enumerate() {
@@ -83,40 +88,31 @@ fn measure_families(mut table: Table, mut row: impl FnMut(&mut Table, Vec<String
     table.mean("all", 0..table.rows());
 }
 
-fn measure_choice(table: &mut Table, mut words: Vec<String>, form: &[u8], room: &mut [u8]) {
-    let chosen = |graph: &Graph| cycle::cycle_breaking_nodes(graph).expect("there are no pairs");
-    let graph = decode(form).expect("it is a good form");
+/// The original's choice.
+pub fn chosen(graph: &Graph) -> Vec<NodeId> {
+    cycle::cycle_breaking_nodes(graph).expect("there are no pairs")
+}
+
+pub fn cycle_breaking_nodes(forms: &[Vec<u8>], room: &mut [u8]) -> Vec<f64> {
+    let stored = |form: &Vec<u8>| id_bytes(chosen(&decode(form)).iter().map(|node| node.0));
     let mut list = vec![0; 2 * MOST_NODES];
-    let due = id_bytes(chosen(&graph).iter().map(|node| node.0));
-    let returned = ohg_cycle_breaking_nodes(form, &mut list, room);
-    assert_eq!(returned & 0xFFFF_FFFF, (due.len() as u64 / 2) << 8);
-    assert_eq!(list[..due.len()], due, "the lists agree");
-    words.push((due.len() / 2).to_string());
-    table.row(
-        &words,
-        [
-            Side::new(|| ohg_cycle_breaking_nodes(black_box(form), black_box(&mut list), room)),
-            Side::new(|| chosen(black_box(&graph))),
-            Side::new(|| {
-                let graph = decode(black_box(form)).expect("it is a good form");
-                id_bytes(chosen(&graph).iter().map(|node| node.0))
-            }),
-        ],
-    );
+    for form in forms {
+        let due = stored(form);
+        let returned = ohg_cycle_breaking_nodes(form, &mut list, room);
+        assert_eq!(answered(returned), Some(due.len() / 2));
+        assert_eq!(list[..due.len()], due, "the lists agree");
+    }
+    let graphs = decode_all(forms);
+    medians(vec![
+        Side::new(forms, |form| {
+            ohg_cycle_breaking_nodes(form, &mut list, room)
+        }),
+        Side::new(&graphs, chosen),
+        Side::new(forms, stored),
+    ])
 }
 
 /// The original has no such check, so it is a plain one: vertices are taken away when no arc leads to them any more.
-fn measure_no_loop(table: &mut Table, mut words: Vec<String>, form: &[u8], room: &mut [u8]) {
-    let graph = decode(form).expect("it is a good form");
-    let due = definition::no_loop(&graph);
-    assert_eq!(ohg_no_loop(form, room), u64::from(due) << 8);
-    words.push(if due { "yes" } else { "no" }.to_string());
-    table.row(
-        &words,
-        [
-            Side::new(|| ohg_no_loop(black_box(form), room)),
-            Side::new(|| definition::no_loop(black_box(&graph))),
-            Side::new(|| decode(black_box(form)).map(|graph| definition::no_loop(&graph))),
-        ],
-    );
+pub fn no_loop(forms: &[Vec<u8>], room: &mut [u8]) -> Vec<f64> {
+    check_times(forms, |form| ohg_no_loop(form, room), definition::no_loop)
 }

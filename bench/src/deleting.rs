@@ -1,7 +1,7 @@
 //! Deleting edges and nodes.
 
-use crate::drawings::{described, form_of, sizes};
-use crate::sides::{graph_row, BESIDE};
+use crate::drawings::{described, every_eighth, forms_of, sizes};
+use crate::sides::{graph_times, ORIGINAL};
 use crate::table::Table;
 use differential::form::{id_bytes, MOST_NODES};
 use differential::rooms::Rooms;
@@ -74,33 +74,41 @@ fn ohg_delete_nodes(
     }
 }
 
-/// Every eighth one goes. The original keeps the map of the nodes to itself.
 pub fn measure(rooms: &Rooms) -> Result<(), String> {
     let mut edges_room = vec![0; rooms.of("ohg_delete_edges")?];
     let mut nodes_room = vec![0; rooms.of("ohg_delete_nodes")?];
-    let mut map = vec![0; 2 * MOST_NODES];
-    let mut table = Table::begin("Deleting every eighth", &["call", "drawing"], &BESIDE);
-    for (nodes, lists) in [(10, 3), (500, 100), (2048, 1024)] {
-        let form = form_of(sizes(nodes, lists));
-        let words = |call: &str| [format!("`{call}`"), described(&form)];
-        let ids = (0..nodes).step_by(8);
-        let list = id_bytes(ids.clone());
-        let edges: Vec<EdgeId> = ids.clone().map(EdgeId).collect();
-        graph_row(
-            &mut table,
-            &words("ohg_delete_edges"),
-            &form,
-            |src, out| ohg_delete_edges(src, &list, out, &mut edges_room),
-            |graph| graph.delete_edges(&edges),
-        );
-        let nodes: Vec<NodeId> = ids.map(NodeId).collect();
-        graph_row(
-            &mut table,
-            &words("ohg_delete_nodes"),
-            &form,
-            |src, out| ohg_delete_nodes(src, &list, out, &mut map, &mut nodes_room),
-            |graph| graph.delete_nodes(&nodes),
-        );
+    let mut table = Table::begin("Deleting every eighth", &["call", "drawing"], &ORIGINAL);
+    for forms in [sizes(10, 3), sizes(500, 100), sizes(2048, 1024)].map(forms_of) {
+        let words = |call: &str| [format!("`{call}`"), described(&forms)];
+        let times = delete_edges(&forms, &mut edges_room);
+        table.row(&words("ohg_delete_edges"), &times);
+        let times = delete_nodes(&forms, &mut nodes_room);
+        table.row(&words("ohg_delete_nodes"), &times);
     }
     Ok(())
+}
+
+/// Every eighth edge goes; there are as many edges as nodes.
+pub fn delete_edges(forms: &[Vec<u8>], room: &mut [u8]) -> Vec<f64> {
+    let ids = every_eighth(forms);
+    let list = id_bytes(ids.clone());
+    let edges: Vec<EdgeId> = ids.map(EdgeId).collect();
+    graph_times(
+        forms,
+        |src, out| ohg_delete_edges(src, &list, out, room),
+        |graph, _| graph.delete_edges(&edges),
+    )
+}
+
+/// Every eighth node goes. The original keeps the map of the nodes to itself.
+pub fn delete_nodes(forms: &[Vec<u8>], room: &mut [u8]) -> Vec<f64> {
+    let ids = every_eighth(forms);
+    let list = id_bytes(ids.clone());
+    let nodes: Vec<NodeId> = ids.map(NodeId).collect();
+    let mut map = vec![0; 2 * MOST_NODES];
+    graph_times(
+        forms,
+        |src, out| ohg_delete_nodes(src, &list, out, &mut map, room),
+        |graph, _| graph.delete_nodes(&nodes),
+    )
 }

@@ -1,5 +1,5 @@
 //! Measures each exported function beside the original and plain Rust, on the same inputs in one process, and prints
-//! tables for docs/MEASURES.md.
+//! tables for docs/MEASURES.md; or, by `growth FILE.svg`, how the time of each grows with its drawing.
 //!
 //! A group of functions has a module, which declares them and puts each behind a safe one of the same name. A slice
 //! passes as a pointer and a length. No two slices of a call overlap here, and a slice's pointer is never null: that is
@@ -9,7 +9,10 @@ mod building;
 mod choice;
 mod deleting;
 mod drawings;
+mod growth;
+mod inputs;
 mod once_fed;
+mod plot;
 mod reading;
 mod sides;
 mod spidering;
@@ -18,11 +21,17 @@ mod table;
 mod timing;
 
 use differential::rooms::Rooms;
+use std::env;
 use std::process::ExitCode;
 
 fn main() -> ExitCode {
-    table::print_preface();
-    match measure() {
+    let arguments: Vec<String> = env::args().skip(1).collect();
+    let measured = match &arguments[..] {
+        [] => measure(),
+        [mode, file] if mode == "growth" => growth::measure(file),
+        _ => Err("usage: cargo run --release [-- growth FILE.svg]".to_string()),
+    };
+    match measured {
         Ok(()) => ExitCode::SUCCESS,
         Err(message) => {
             eprintln!("{message}");
@@ -33,11 +42,11 @@ fn main() -> ExitCode {
 
 fn measure() -> Result<(), String> {
     let rooms = Rooms::read()?;
+    table::print_preface();
     reading::measure();
     building::measure();
     deleting::measure(&rooms)?;
     choice::measure(&rooms)?;
     once_fed::measure(&rooms)?;
-    spidering::measure(&rooms)?;
-    Ok(())
+    spidering::measure(&rooms)
 }

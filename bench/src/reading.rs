@@ -1,10 +1,10 @@
 //! Reading, and reading and writing.
 
-use crate::drawings::{described, form_of, sizes};
+use crate::drawings::{described, forms_of, sizes};
+use crate::sides::assert_answered;
 use crate::table::Table;
-use crate::timing::Side;
+use crate::timing::{medians, Side};
 use differential::form::{self, MOST_BYTES};
-use std::hint::black_box;
 
 mod exported {
     extern "C" {
@@ -13,45 +13,53 @@ mod exported {
     }
 }
 
+// SAFETY, of both: each part is lent for the call, with its own length.
+
 fn ohg_read(src: &[u8], sizes: &mut [u8]) -> u64 {
-    // SAFETY: both parts are lent for the call, with their own lengths.
     unsafe { exported::ohg_read(src.as_ptr(), src.len(), sizes.as_mut_ptr(), sizes.len()) }
 }
 
 fn ohg_rewrite(src: &[u8], out: &mut [u8]) -> u64 {
-    // SAFETY: both parts are lent for the call, with their own lengths.
     unsafe { exported::ohg_rewrite(src.as_ptr(), src.len(), out.as_mut_ptr(), out.len()) }
 }
 
 pub fn measure() {
-    let forms = [sizes(10, 3), sizes(500, 100), sizes(2048, 1024)].map(form_of);
-    let beside = ["sizes alone", "decoding"];
+    let drawings = [sizes(10, 3), sizes(500, 100), sizes(2048, 1024)].map(forms_of);
+    let beside = ["decoding", "sizes alone"];
     let mut table = Table::begin("`ohg_read`", &["drawing"], &beside);
-    for form in &forms {
-        measure_read(&mut table, form);
+    for forms in &drawings {
+        table.row(&[described(forms)], &read(forms));
     }
     let beside = ["decoding and encoding"];
     let mut table = Table::begin("`ohg_rewrite`", &["drawing"], &beside);
-    for form in &forms {
-        measure_rewrite(&mut table, form);
+    for forms in &drawings {
+        table.row(&[described(forms)], &rewrite(forms));
     }
 }
 
-/// Beside a reader that only looks, as the port's does, and one that makes the drawing.
-fn measure_read(table: &mut Table, form: &[u8]) {
+/// Beside a reader that makes the drawing, and one that only looks, as the port's does.
+pub fn read(forms: &[Vec<u8>]) -> Vec<f64> {
     let mut answer = [0; 24];
-    assert_eq!(ohg_read(form, &mut answer), 24 << 8, "it is answered");
-    let port = Side::new(|| ohg_read(black_box(form), black_box(&mut answer)));
-    let sizes = Side::new(|| form::sizes(black_box(form)));
-    let decoding = Side::new(|| form::read(black_box(form)));
-    table.row(&[described(form)], [port, sizes, decoding]);
+    for form in forms {
+        let due = form::sizes(form).expect("it is a good form").bytes();
+        assert_answered(ohg_read(form, &mut answer), &answer, &due);
+    }
+    medians(vec![
+        Side::new(forms, |form| ohg_read(form, &mut answer)),
+        Side::new(forms, |form| form::read(form)),
+        Side::new(forms, |form| form::sizes(form)),
+    ])
 }
 
-fn measure_rewrite(table: &mut Table, form: &[u8]) {
-    let mut answer = [0; MOST_BYTES];
-    let due = (form.len() as u64) << 8;
-    assert_eq!(ohg_rewrite(form, &mut answer), due, "it is answered");
-    let port = Side::new(|| ohg_rewrite(black_box(form), black_box(&mut answer)));
-    let rust = Side::new(|| form::read(black_box(form)).map(|drawing| form::write(&drawing)));
-    table.row(&[described(form)], [port, rust]);
+pub fn rewrite(forms: &[Vec<u8>]) -> Vec<f64> {
+    let mut out = vec![0; MOST_BYTES];
+    for form in forms {
+        assert_answered(ohg_rewrite(form, &mut out), &out, form);
+    }
+    medians(vec![
+        Side::new(forms, |form| ohg_rewrite(form, &mut out)),
+        Side::new(forms, |form| {
+            form::read(form).map(|drawing| form::write(&drawing))
+        }),
+    ])
 }

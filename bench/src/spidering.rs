@@ -1,15 +1,16 @@
 //! Spiderizing.
 
-use crate::drawings::FAMILIES;
-use crate::sides::{graph_row, BESIDE};
-use crate::table::Table;
-use differential::convert::{sizes, to_lax, Graph};
-use differential::form::{self, id_bytes, Drawing, MOST_NODES};
-use differential::rng::Rng;
+use crate::choice::chosen;
+use crate::drawings::{several, FAMILIES};
+use crate::sides::{graph_times, ORIGINAL};
+use crate::stored::decode;
+use crate::table::{mean, Table};
+use differential::convert::{sizes, Graph};
+use differential::form::{id_bytes, Sizes, MOST_NODES};
 use differential::rooms::Rooms;
 use differential::rows::choice::families::Family;
 use differential::rows::spidering::flattened;
-use oracle::lax::{cycle, NodeId};
+use oracle::lax::NodeId;
 
 mod exported {
     extern "C" {
@@ -64,22 +65,47 @@ fn ohg_spiderize_nodes(src: &[u8], ids: &[u8], out: &mut [u8], room: &mut [u8]) 
     }
 }
 
-pub fn measure(rooms: &Rooms) -> Result<(), String> {
-    let words = ["family", "nodes", "listed", "bytes answered"];
-    let mut room = vec![0; rooms.of("ohg_spiderize_nodes")?];
-    let table = Table::begin("`ohg_spiderize_nodes`, the chosen ones", &words, &BESIDE);
-    measure_families(table, chosen, |src, ids, out| {
-        ohg_spiderize_nodes(src, ids, out, &mut room)
-    });
+/// So few nodes that any drawing of a family can be spiderized.
+const FEW: usize = 50;
 
-    let mut room = vec![0; rooms.of("ohg_spiderize")?];
-    let table = Table::begin("`ohg_spiderize`, all nodes", &words, &BESIDE);
-    measure_families(table, all, |src, _, out| ohg_spiderize(src, out, &mut room));
-    Ok(())
+/// A form with some of its nodes, which stand beside it as ids too.
+pub struct Listed {
+    form: Vec<u8>,
+    nodes: Vec<NodeId>,
+    ids: Vec<u8>,
 }
 
-fn chosen(graph: &Graph) -> Vec<NodeId> {
-    cycle::cycle_breaking_nodes(graph).expect("there are no pairs")
+impl Listed {
+    pub fn new(form: &[u8], nodes: Vec<NodeId>) -> Self {
+        let form = form.to_vec();
+        let ids = id_bytes(nodes.iter().map(|node| node.0));
+        Listed { form, nodes, ids }
+    }
+
+    /// How large the drawing becomes by spiderizing these nodes.
+    fn result(&self) -> Sizes {
+        let mut graph = decode(&self.form);
+        replace_by_spiderized(&mut graph, &self.nodes);
+        sizes(&graph)
+    }
+}
+
+impl AsRef<[u8]> for Listed {
+    fn as_ref(&self) -> &[u8] {
+        &self.form
+    }
+}
+
+pub fn measure(rooms: &Rooms) -> Result<(), String> {
+    let words = ["family", "nodes", "listed (mean)", "bytes answered (mean)"];
+    let mut room = vec![0; rooms.of("ohg_spiderize_nodes")?];
+    let table = Table::begin("`ohg_spiderize_nodes`, the chosen ones", &words, &ORIGINAL);
+    measure_families(table, chosen, |inputs| spiderize_nodes(inputs, &mut room));
+
+    let mut room = vec![0; rooms.of("ohg_spiderize")?];
+    let table = Table::begin("`ohg_spiderize`, all nodes", &words, &ORIGINAL);
+    measure_families(table, all, |inputs| spiderize(inputs, &mut room));
+    Ok(())
 }
 
 fn all(graph: &Graph) -> Vec<NodeId> {
@@ -90,56 +116,64 @@ fn all(graph: &Graph) -> Vec<NodeId> {
 fn measure_families(
     mut table: Table,
     listed: fn(&Graph) -> Vec<NodeId>,
-    mut port: impl FnMut(&[u8], &[u8], &mut [u8]) -> u64,
+    mut times: impl FnMut(&[Listed]) -> Vec<f64>,
 ) {
     for (name, family) in FAMILIES {
-        for nodes in [50, most_nodes(family, listed)] {
-            let drawing = family(&mut Rng::new(1), nodes);
-            let list = listed(&to_lax(&drawing));
-            let ids = id_bytes(list.iter().map(|node| node.0));
-            let bytes = sizes(&spiderized(&drawing, &list)).form_bytes();
+        for nodes in [FEW, most_nodes(family, listed)] {
+            let inputs = inputs(family, nodes, listed);
             let words = [
                 name.to_string(),
                 nodes.to_string(),
-                list.len().to_string(),
-                bytes.to_string(),
+                mean(inputs.iter().map(|input| input.nodes.len())),
+                mean(inputs.iter().map(|input| input.result().form_bytes())),
             ];
-            let form = form::write(&drawing);
-            graph_row(
-                &mut table,
-                &words,
-                &form,
-                |src, out| port(src, &ids, out),
-                |graph| spiderize_nodes(graph, &list),
-            );
+            table.row(&words, &times(&inputs));
         }
     }
     table.mean("all", 0..table.rows());
 }
 
+fn inputs(family: Family, nodes: usize, listed: fn(&Graph) -> Vec<NodeId>) -> Vec<Listed> {
+    let forms = several(|rng| family(rng, nodes));
+    let with_list = |form: &Vec<u8>| Listed::new(form, listed(&decode(form)));
+    forms.iter().map(with_list).collect()
+}
+
+/// The most nodes of a family with which the results are within the limits. By chance some more might do.
+fn most_nodes(family: Family, listed: fn(&Graph) -> Vec<NodeId>) -> usize {
+    let [mut most, mut too_many] = [FEW, MOST_NODES + 1];
+    while most + 1 < too_many {
+        let nodes = (most + too_many) / 2;
+        let mut inputs = inputs(family, nodes, listed).into_iter();
+        if inputs.all(|input| input.result().within_limits()) {
+            most = nodes;
+        } else {
+            too_many = nodes;
+        }
+    }
+    most
+}
+
+pub fn spiderize<T: AsRef<[u8]>>(forms: &[T], room: &mut [u8]) -> Vec<f64> {
+    graph_times(
+        forms,
+        |src, out| ohg_spiderize(src.as_ref(), out, room),
+        |graph, _| replace_by_spiderized(graph, &all(graph)),
+    )
+}
+
+pub fn spiderize_nodes(inputs: &[Listed], room: &mut [u8]) -> Vec<f64> {
+    graph_times(
+        inputs,
+        |src, out| ohg_spiderize_nodes(&src.form, &src.ids, out, room),
+        |graph, src| replace_by_spiderized(graph, &src.nodes),
+    )
+}
+
 /// The original takes the graph and gives another, with a second `WithSpider` about each label, which is taken off as the
 /// answer would have to be.
-fn spiderize_nodes(graph: &mut Graph, list: &[NodeId]) {
+fn replace_by_spiderized(graph: &mut Graph, nodes: &[NodeId]) {
     let taken = std::mem::replace(graph, Graph::empty());
-    let spiderized = taken.spiderize_nodes(list).expect("nothing is merged");
+    let spiderized = taken.spiderize_nodes(nodes).expect("nothing is merged");
     *graph = flattened(spiderized);
-}
-
-fn spiderized(drawing: &Drawing, list: &[NodeId]) -> Graph {
-    let mut graph = to_lax(drawing);
-    spiderize_nodes(&mut graph, list);
-    graph
-}
-
-/// The most nodes of a family with which the result is within the limits.
-fn most_nodes(family: Family, listed: fn(&Graph) -> Vec<NodeId>) -> usize {
-    let fits = |nodes: &usize| {
-        let drawing = family(&mut Rng::new(1), *nodes);
-        let list = listed(&to_lax(&drawing));
-        sizes(&spiderized(&drawing, &list)).within_limits()
-    };
-    (50..=MOST_NODES)
-        .rev()
-        .find(fits)
-        .expect("50 nodes are few enough")
 }

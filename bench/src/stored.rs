@@ -1,13 +1,13 @@
 //! The original's graph from the stored form and back, with nothing made in between.
 
 use differential::convert::{to_label, Graph};
-use differential::form::{self, number16, Refusal, HEADER_BYTES, MARK, SPIDER, VERSION};
+use differential::form::{self, number16, HEADER_BYTES, MARK, SPIDER, VERSION};
 use oracle::lax::spider::WithSpider;
 use oracle::lax::{Hyperedge, Hypergraph, NodeId};
 
-/// The graph of a form, which is checked first.
-pub fn decode(form: &[u8]) -> Result<Graph, Refusal> {
-    let sizes = form::sizes(form)?;
+/// The graph of a form, which is a good one and is checked first.
+pub fn decode(form: &[u8]) -> Graph {
+    let sizes = form::sizes(form).expect("it is a good form");
     let (labels, rest) = form[HEADER_BYTES..].split_at(4 * sizes.nodes);
     let (edge_labels, mut rest) = rest.split_at(4 * sizes.edges);
     let mut adjacency = Vec::with_capacity(sizes.edges);
@@ -24,7 +24,7 @@ pub fn decode(form: &[u8]) -> Result<Graph, Refusal> {
     let (sources, rest) = rest.split_at(2 * sizes.sources);
     let (targets, pairs) = rest.split_at(2 * sizes.targets);
     let pairs = pairs.chunks_exact(4);
-    Ok(Graph {
+    Graph {
         sources: nodes(sources),
         targets: nodes(targets),
         hypergraph: Hypergraph {
@@ -36,7 +36,11 @@ pub fn decode(form: &[u8]) -> Result<Graph, Refusal> {
                 pairs.map(|pair| node(pair, 2)).collect(),
             ),
         },
-    })
+    }
+}
+
+pub fn decode_all(forms: &[Vec<u8>]) -> Vec<Graph> {
+    forms.iter().map(|form| decode(form)).collect()
 }
 
 fn nodes(ids: &[u8]) -> Vec<NodeId> {

@@ -10,11 +10,11 @@ pub const ROUNDS: usize = 41;
 /// How long a batch takes, about.
 pub const BATCH: Duration = Duration::from_millis(2);
 
-/// Inputs that are made for each call are made before as many calls as they go into a cache, but not for more than so
-/// many; and so many calls are a batch at most.
+/// Copies of inputs are made for as many calls as go into a cache, but not for more than so many; and so many calls on
+/// copies are a batch at most.
 const CACHE_BYTES: usize = 1 << 18;
-const MOST_MADE: usize = 64;
-const MOST_CALLS_ON_MADE: usize = 256;
+const MOST_COPIES: usize = 64;
+const MOST_CALLS_ON_COPIES: usize = 256;
 
 /// One of the ways: it makes so many calls and says how long they took.
 pub struct Side<'a> {
@@ -23,12 +23,13 @@ pub struct Side<'a> {
 }
 
 impl<'a> Side<'a> {
-    /// Calls that leave their inputs as they are.
-    pub fn new<R>(mut call: impl FnMut() -> R + 'a) -> Self {
+    /// Calls on the inputs by turns, which are left as they are.
+    pub fn new<T, R>(inputs: &'a [T], mut call: impl FnMut(&T) -> R + 'a) -> Self {
+        let mut turns = inputs.iter().cycle();
         let timed = move |calls: usize| {
             time(|| {
-                for _ in 0..calls {
-                    black_box(call());
+                for input in turns.by_ref().take(calls) {
+                    black_box(call(black_box(input)));
                 }
             })
         };
@@ -38,23 +39,25 @@ impl<'a> Side<'a> {
         }
     }
 
-    /// Calls that change what they are given, of about so many bytes. It is made before, and dropped after, outside of
-    /// what is timed.
-    pub fn on<T, R>(
+    /// Calls that change what they are given: a copy of each input in turn, of about so many bytes. It is made before, and
+    /// dropped after, outside of what is timed.
+    pub fn on_copies<T: Clone, R>(
+        inputs: &'a [T],
         bytes: usize,
-        mut make: impl FnMut() -> T + 'a,
         mut call: impl FnMut(&mut T) -> R + 'a,
     ) -> Self {
-        let at_a_time = (CACHE_BYTES / bytes.max(1)).clamp(1, MOST_MADE);
+        let at_a_time = (CACHE_BYTES / bytes.max(1)).clamp(1, MOST_COPIES);
+        let mut turns = inputs.iter().cycle();
         let timed = move |calls: usize| {
             let mut left = calls;
             let mut taken = Duration::ZERO;
             while left > 0 {
-                let mut inputs: Vec<T> = (0..left.min(at_a_time)).map(|_| make()).collect();
-                left -= inputs.len();
+                let now = turns.by_ref().take(left.min(at_a_time));
+                let mut copies: Vec<T> = now.cloned().collect();
+                left -= copies.len();
                 taken += time(|| {
-                    for input in &mut inputs {
-                        black_box(call(black_box(input)));
+                    for copy in &mut copies {
+                        black_box(call(black_box(copy)));
                     }
                 });
             }
@@ -62,7 +65,7 @@ impl<'a> Side<'a> {
         };
         Side {
             timed: Box::new(timed),
-            most: MOST_CALLS_ON_MADE,
+            most: MOST_CALLS_ON_COPIES,
         }
     }
 
@@ -84,18 +87,18 @@ impl<'a> Side<'a> {
 }
 
 /// The median of the nanoseconds that a call takes, for each side.
-pub fn medians<const N: usize>(mut sides: [Side; N]) -> [f64; N] {
-    let calls = sides.each_mut().map(Side::batch_size);
-    let mut times = [const { vec![] }; N];
+pub fn medians(mut sides: Vec<Side>) -> Vec<f64> {
+    let calls: Vec<usize> = sides.iter_mut().map(Side::batch_size).collect();
+    let mut times = vec![vec![]; sides.len()];
     for round in 0..ROUNDS {
         // Whatever slows one side of a round down falls to the others as often.
-        for turn in 0..N {
-            let side = (round + turn) % N;
+        for turn in 0..sides.len() {
+            let side = (round + turn) % sides.len();
             let taken = (sides[side].timed)(calls[side]);
             times[side].push(taken.as_nanos() as f64 / calls[side] as f64);
         }
     }
-    times.map(median)
+    times.into_iter().map(median).collect()
 }
 
 fn median<T: PartialOrd + Copy>(mut times: Vec<T>) -> T {

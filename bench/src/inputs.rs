@@ -1,0 +1,111 @@
+//! What the growth of a call is measured on.
+
+use crate::drawings::{forms_of, label_bytes, several, size, sizes};
+use differential::form::{MOST_GLOBALS, MOST_NODES};
+use differential::rows::choice::families::{ring, tree};
+
+/// How many sizes a call is measured at, each larger than the one before by the same factor.
+pub const SIZES: usize = 8;
+
+/// Inputs of some kind, from small to as large as a call can take.
+#[derive(Clone, Copy)]
+pub struct Inputs {
+    pub words: &'static str,
+    /// Nodes of a form, or labels in a list.
+    fewest: usize,
+    most: usize,
+    /// The nodes and ports of the drawing that is read or made of so many, and what is given to the call by turns.
+    pub of: fn(usize) -> (usize, Vec<Vec<u8>>),
+}
+
+impl Inputs {
+    /// The numbers of nodes or labels to measure.
+    pub fn numbers(&self) -> Vec<usize> {
+        let [fewest, most] = [self.fewest, self.most].map(|number| number as f64);
+        let factor = |step: usize| (most / fewest).powf(step as f64 / (SIZES - 1) as f64);
+        let number = |step| (fewest * factor(step)).round() as usize;
+        let mut numbers: Vec<usize> = (0..SIZES).map(number).collect();
+        numbers.dedup();
+        numbers
+    }
+}
+
+/// As many edges as nodes, four ports to an edge, and lists half as long.
+pub const RANDOM: Inputs = Inputs {
+    words: "random drawings",
+    fewest: 3,
+    most: MOST_NODES,
+    of: |nodes| sized(forms_of(sizes(nodes, nodes / 2))),
+};
+
+/// An operation adds four nodes.
+pub const TO_ADD_TO: Inputs = Inputs {
+    most: MOST_NODES - 4,
+    ..RANDOM
+};
+
+/// Without pairs, which the choice and spiderizing refuse, and without global lists, of which spiderizing makes nodes.
+pub const BARE: Inputs = Inputs {
+    words: "random, no lists",
+    of: |nodes| sized(forms_of(sizes(nodes, 0))),
+    ..RANDOM
+};
+
+/// Each port gets a node of its own, and there are four to a node.
+pub const TO_SPIDERIZE: Inputs = Inputs {
+    most: MOST_NODES / 5,
+    ..BARE
+};
+
+/// The ports of every eighth node do so: by chance about half as many as there are nodes.
+pub const EIGHTH_TO_SPIDERIZE: Inputs = Inputs {
+    most: MOST_NODES * 5 / 8,
+    ..BARE
+};
+
+/// All of a drawing is taken away before the no-loop check says yes.
+pub const TREES: Inputs = Inputs {
+    words: "trees",
+    fewest: 6,
+    most: MOST_NODES,
+    of: |nodes| sized(several(|rng| tree(rng, nodes))),
+};
+
+/// All of a drawing is looked at before the once-fed check says yes.
+pub const RINGS: Inputs = Inputs {
+    words: "rings",
+    of: |nodes| sized(several(|rng| ring(rng, nodes))),
+    ..TREES
+};
+
+pub const NODES: Inputs = Inputs {
+    words: "nodes alone",
+    fewest: 16,
+    most: MOST_NODES,
+    of: |labels| (labels, vec![label_bytes(labels)]),
+};
+
+pub const GLOBAL_NODES: Inputs = Inputs {
+    words: "nodes, all global",
+    most: MOST_GLOBALS,
+    ..NODES
+};
+
+/// A node and a port for each label.
+pub const ONE_EDGE: Inputs = Inputs {
+    words: "one edge",
+    fewest: 8,
+    of: |labels| (2 * labels, vec![label_bytes(labels)]),
+    ..NODES
+};
+
+pub const NOTHING: Inputs = Inputs {
+    words: "no input",
+    fewest: 1,
+    most: 1,
+    of: |_| (0, vec![vec![]]),
+};
+
+fn sized(forms: Vec<Vec<u8>>) -> (usize, Vec<Vec<u8>>) {
+    (size(&forms[0]), forms)
+}

@@ -1,0 +1,23 @@
+#include <stdio.h>
+#include "ohg.h"
+
+/* One byte more than the largest form, so that a longer file is refused and not cut. */
+static uint8_t form[OHG_FORM_BYTES + 1], cut[OHG_FORM_BYTES], list[OHG_LIST_BYTES], room[OHG_ROOM_CYCLE_BREAKING_NODES];
+
+int main(void) {
+    size_t n = fread(form, 1, sizeof form, stdin);
+    uint64_t choice = ohg_cycle_breaking_nodes(form, n, list, sizeof list, room, sizeof room);
+    if (OHG_CODE(choice) != OHG_DONE) {
+        printf("refused %u\n", OHG_CODE(choice));
+        return 1;
+    }
+    printf("cut %u free %u\n", OHG_A(choice), OHG_B(choice));
+    uint64_t answer = ohg_spiderize_nodes(form, n, list, 2 * OHG_A(choice), cut, sizeof cut, room, sizeof room);
+    if (OHG_CODE(answer) != OHG_DONE) {
+        printf("refused %u\n", OHG_CODE(answer));
+        return 1;
+    }
+    uint64_t yes = ohg_no_loop(cut, OHG_A(answer), room, sizeof room);
+    printf("no loop: %s\n", OHG_A(yes) ? "yes" : "no");
+    return 0;
+}

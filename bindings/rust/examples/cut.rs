@@ -1,0 +1,14 @@
+use ohg::Graph;
+use std::error::Error;
+use std::io::{stdin, Read};
+
+fn main() -> Result<(), Box<dyn Error>> {
+    let mut bytes = Vec::new();
+    stdin().read_to_end(&mut bytes)?;
+    let graph = Graph::from_bytes(bytes)?;
+    let choice = graph.cycle_breaking_nodes()?;
+    println!("cut {} free {}", choice.nodes.len(), choice.free);
+    let cut = graph.spiderize_nodes(&choice.nodes)?;
+    println!("no loop: {}", if cut.no_loop()? { "yes" } else { "no" });
+    Ok(())
+}
