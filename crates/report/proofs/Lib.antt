@@ -1,0 +1,4 @@
+pub mod ByHand
+pub mod Prefix
+pub mod Reports
+pub mod Texts

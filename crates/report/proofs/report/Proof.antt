@@ -1,0 +1,149 @@
+-- `report::report` meets its contract: of the three ways out, each puts what the definition tells.
+-- Assumes nothing.
+use mathlib.Core.Path.{ap, subst, _∙_}
+use mathlib.Core.List.{List}
+use Prim.Native.Nat.{ℕ}
+use native.Mathlib.Omega.{arith}
+use lib.ListN.{length}
+use denote.Ref.{now}
+use borrow.Author.Needs.{needs}
+use Rattle.form.specs.Form.{readRefusal}
+use Rattle.form.specs.declared.Refusal.{Refusal}
+use Rattle.report.specs.Report.{refusedLine}
+use Rattle.report.specs.Text.{Put}
+use Rattle.form.proofs.Whole.{Stored, stored-graph, unread}
+use Rattle.le.proofs.Numbers.{below-each}
+use Rattle.report.proofs.Reports.{Drawing, text-unread, text-refused, text-done}
+use Rattle.report.proofs.report.Statement.{statement}
+use Rattle.report.proofs.report.Tie as tie
+
+-- the form that was read
+form : (c : tie.After-known-told) → Stored (now (c .before .before .before .before .before .before .before .before .args .src)) (c .before .graph .given .0 .0)
+form c =
+    let b = now (c .before .before .before .before .before .before .before .before .args .src) in
+    stored-graph b (below-each 256 b (λ i l. omega (arith, c .before .before .before .before .before .before .before .shared-slice-known .given i)))
+    (c .before .before .before .read .result) (c .before .before .before .read .ensures) (c .before .graph .given .0 .0) (c .before .graph .given .1)
+
+-- the choice that was made
+drawing : (c : tie.After-known-told2)
+    → Drawing
+    (now (c .before .before .before .before .before .before .before .before .before .before .before .before .before .before .before .before .before .before .args .src))
+    (c .before .before .before .before .before .before .before .before .before .before .before .graph .given .0 .0)
+    (c .before .choice .given .0 .0)
+    (c .before .choice .given .0 .1 .0)
+    (c .before .before .before .before .before .before .before .cycle-breaking-nodes .last .1 .0)
+drawing c =
+    let chose = c .before .before .before .before .before .before .before in
+    let known = chose .before .before .before in
+    let start = known .before .before .before .before .before .before .before .before in
+    let a = start .args in
+    let r = chose .cycle-breaking-nodes in
+    let x = c .before .choice .given in
+    text-done (now (a .src)) (known .before .graph .given .0 .0) (form known) (now (a .list)) (length (now (a .room))) (start .pre .0) (start .pre .1)
+    (r .result) (r .ensures .0) (x .0 .0) (x .0 .1 .0) (x .1) (r .last .1 .0) (r .ensures .1)
+
+read-requires : tie.Need-read-requires
+read-requires c κs = search needs
+
+enum-known-graph : tie.Need-enum-known-graph
+enum-known-graph c = search needs
+
+enum-told : tie.Need-enum-told
+enum-told c = search needs
+
+refusal-requires : tie.Need-refusal-requires
+refusal-requires c κs = search needs
+
+put-refusal-requires : tie.Need-put-refusal-requires
+put-refusal-requires c κs = search needs
+
+same-length : tie.Need-same-length
+same-length c = search needs
+
+returns : tie.Need-returns
+returns c =
+    let a = c .before .before .before .before .before .before .before .before .before .before .before .before .args in
+    let r = c .before .before .before .before .before .before .before .read in
+    let x = c .before .before .before .before .before .enum-told .given in
+    let p = c .before .before .put-refusal in
+    let e = ap (λ (y : Refusal). refusedLine (y .no)) (c .before .before .before .refusal .ensures ∙ ap readRefusal (x .1))
+    ∙ text-unread (now (a .src)) (x .0 .0 .no) (unread (now (a .src)) (r .result) (r .ensures) (x .0 .0) (x .1)) in
+    (subst (λ (t : List ℕ). Put (now (a .out)) 0 t (p .last .0) (p .result)) e (p .ensures .0), p .ensures .1)
+
+cycle-breaking-nodes-requires : tie.Need-cycle-breaking-nodes-requires
+cycle-breaking-nodes-requires c κs = search needs
+
+enum-known-choice : tie.Need-enum-known-choice
+enum-known-choice c = search needs
+
+put-drawing-requires : tie.Need-put-drawing-requires
+put-drawing-requires c κs = let d = drawing (c .before .before) in (d .few, d .held, search needs)
+
+enum-known-choice-2 : tie.Need-enum-known-choice-2
+enum-known-choice-2 c = search needs
+
+put-refusal-requires-2 : tie.Need-put-refusal-requires-2
+put-refusal-requires-2 c κs = search needs
+
+same-length-2 : tie.Need-same-length-2
+same-length-2 c = search needs
+
+same-length-3 : tie.Need-same-length-3
+same-length-3 c = search needs
+
+same-length-4 : tie.Need-same-length-4
+same-length-4 c = search needs
+
+returns-2 : tie.Need-returns-2
+returns-2 c =
+    let p = c .before .before .put-drawing in
+    let known = c .before .before .before .before .before .before .before .before .before .before .before .before .before .before .before in
+    let a = known .before .before .before .before .before .before .before .before .args in
+    (subst (λ (t : List ℕ). Put (now (a .out)) 0 t (p .last .0) (p .result)) (drawing (c .before .before .before .before .before) .text) (p .ensures .0), p .ensures .1)
+
+same-length-5 : tie.Need-same-length-5
+same-length-5 c = search needs
+
+same-length-6 : tie.Need-same-length-6
+same-length-6 c = search needs
+
+same-length-7 : tie.Need-same-length-7
+same-length-7 c = search needs
+
+returns-3 : tie.Need-returns-3
+returns-3 c =
+    let chose = c .before .before .before .before .before .before .before .before .before .before .before in
+    let known = chose .before .before .before in
+    let start = known .before .before .before .before .before .before .before .before in
+    let a = start .args in
+    let r = chose .cycle-breaking-nodes in
+    let x = c .before .before .before .before .before .choice2 .given in
+    let p = c .before .before .put-refusal2 in
+    let e = text-refused (now (a .src)) (known .before .graph .given .0 .0) (form known) (now (a .list)) (length (now (a .room))) (start .pre .0) (start .pre .1)
+    (r .result) (r .ensures .0) (x .0 .0) (x .1) in
+    (subst (λ (t : List ℕ). Put (now (a .out)) 0 t (p .last .0) (p .result)) e (p .ensures .0), p .ensures .1)
+
+pub report-spec : {M : Type 1} → statement M
+report-spec =
+    tie.close
+    (tie.spec
+    read-requires
+    enum-known-graph
+    enum-told
+    refusal-requires
+    put-refusal-requires
+    same-length
+    returns
+    cycle-breaking-nodes-requires
+    enum-known-choice
+    put-drawing-requires
+    enum-known-choice-2
+    put-refusal-requires-2
+    same-length-2
+    same-length-3
+    same-length-4
+    returns-2
+    same-length-5
+    same-length-6
+    same-length-7
+    returns-3)

@@ -1,0 +1,48 @@
+-- `report::text::put_drawing` meets its contract.
+-- Assumes nothing.
+use borrow.Author.Needs.{needs}
+use Rattle.report.proofs.Texts.{put-lines}
+use Rattle.report.proofs.text.put_drawing.Statement.{statement}
+use Rattle.report.proofs.text.put_drawing.Tie as tie
+
+slice-aggregate-put-text : tie.Need-slice-aggregate-put-text
+slice-aggregate-put-text c = search needs
+
+put-text-requires : tie.Need-put-text-requires
+put-text-requires c κs = search needs
+
+put-sizes-requires : tie.Need-put-sizes-requires
+put-sizes-requires c κs = search needs
+
+put-counts-requires : tie.Need-put-counts-requires
+put-counts-requires c κs = search needs
+
+put-ids-requires : tie.Need-put-ids-requires
+put-ids-requires c κs = search needs
+
+same-length : tie.Need-same-length
+same-length c = search needs
+
+returns : tie.Need-returns
+returns c =
+    let ids = c .before .before in
+    let counts = ids .before .before .before .before in
+    let sizes = counts .before .before .before .before in
+    let mark = sizes .before .before .before .before in
+    let a = mark .before .before .before .before .before .args in (
+      put-lines (a .z .nodes) (a .z .edges) (a .z .ports) (a .ids) (a .free) (a .list .now)
+          (mark .put-text .ensures) (sizes .put-sizes .ensures .0) (counts .put-counts .ensures .0) (ids .put-ids .ensures .0),
+      search needs,
+    )
+
+pub put-drawing-spec : {M : Type 1} → statement M
+put-drawing-spec =
+    tie.close
+    (tie.spec
+    slice-aggregate-put-text
+    put-text-requires
+    put-sizes-requires
+    put-counts-requires
+    put-ids-requires
+    same-length
+    returns)

@@ -1,0 +1,31 @@
+-- `report::text::put_id` meets its contract.
+-- Assumes nothing.
+use borrow.Author.Needs.{needs}
+use Rattle.report.specs.Text.{ascii, decimal}
+use Rattle.report.proofs.Texts.{put-then}
+use Rattle.report.proofs.text.put_id.Statement.{statement}
+use Rattle.report.proofs.text.put_id.Tie as tie
+
+put-number-requires : tie.Need-put-number-requires
+put-number-requires c κs = search needs
+
+slice-aggregate-put-text : tie.Need-slice-aggregate-put-text
+slice-aggregate-put-text c = search needs
+
+put-text-requires : tie.Need-put-text-requires
+put-text-requires c κs = search needs
+
+same-length : tie.Need-same-length
+same-length c = search needs
+
+returns : tie.Need-returns
+returns c =
+    let end = c .before .before in
+    let number = end .before .before .before .before .before in
+    let a = number .before .before .before .args in
+    (put-then (decimal (a .id)) (ascii "\n") (number .put-number .ensures .0) (end .put-text .ensures), search needs)
+
+pub put-id-spec : {M : Type 1} → statement M
+put-id-spec =
+    tie.close
+    (tie.spec put-number-requires slice-aggregate-put-text put-text-requires same-length returns)

@@ -1,0 +1,27 @@
+-- `report::text::put_text` meets its contract.
+-- Assumes nothing.
+use mathlib.Core.Path.{refl, ap, _∙_}
+use lib.Seq.{sets, take-length}
+use borrow.Author.Needs.{needs}
+use Rattle.report.proofs.text.put_text.Statement.{statement}
+use Rattle.report.proofs.text.put_text.Tie as tie
+
+copy-requires : tie.Need-copy-requires
+copy-requires c κs = search needs
+
+add-result : tie.Need-add-result
+add-result c = search needs
+
+same-length : tie.Need-same-length
+same-length c = search needs
+
+returns : tie.Need-returns
+returns c =
+    let d = c .before .before .before .before .before .before .args in
+    record {
+      holds = c .before .before .copy .ensures ∙ ap (sets (d .out .now) (d .at)) (take-length (d .text .now));
+      ends = refl;
+    }
+
+pub put-text-spec : {M : Type 1} → statement M
+put-text-spec = tie.close (tie.spec copy-requires add-result same-length returns)

@@ -1,0 +1,53 @@
+-- 01, the report program: what it prints for any bytes.
+-- Assumes nothing.
+use mathlib.Core.List.{List, _++_}
+use Prim.Native.Nat.{ℕ}
+use Prim.Native.String.{String}
+use lib.ListN.{length}
+use Rattle.graph.specs.Lists.{joined}
+use Rattle.graph.specs.Graph.{Graph, Format, ports}
+use Rattle.graph.specs.Form.{mark}
+use Rattle.graph.specs.Answer.{Answer, refused, answered, _>>=_}
+use Rattle.graph.specs.Read.{read}
+use Rattle.graph.specs.Calls.{unpaired}
+use Rattle.choice.specs.Drawing.{chosen}
+use Rattle.report.specs.Text.{ascii, decimal}
+
+-- a word and a number
+abbrev pub field : String → ℕ → List ℕ
+field word n = ascii word ++ decimal n
+
+-- "mark and version"
+abbrev pub markLine : Format → List ℕ
+markLine f = mark ++ field " " (f .version) ++ ascii "\n"
+
+-- "the sizes"
+abbrev pub sizesLine : ℕ → ℕ → ℕ → List ℕ
+sizesLine nodes edges ports =
+    field "nodes " nodes ++ field " edges " edges ++ field " ports " ports ++ ascii "\n"
+
+-- "how many were cut and how many removed freely"
+abbrev pub countsLine : ℕ → ℕ → List ℕ
+countsLine cut free = field "cut " cut ++ field " free " free ++ ascii "\n"
+
+-- "then one cut id a line"
+abbrev pub idLine : ℕ → List ℕ
+idLine id = decimal id ++ ascii "\n"
+
+-- "On a refusal it prints one line, `refused` and the number."
+abbrev pub refusedLine : ℕ → List ℕ
+refusedLine n = field "refused " n ++ ascii "\n"
+
+-- a drawing of these sizes with these cut ids
+abbrev pub drawingText : Format → ℕ → ℕ → ℕ → ℕ → List ℕ → List ℕ
+drawingText f nodes edges ports free ids =
+    markLine f ++ sizesLine nodes edges ports ++ countsLine (length ids) free ++ joined idLine ids
+
+-- what is printed of a graph that was read and has no pairs, or of a refusal
+abbrev pub told : Format → Answer Graph → List ℕ
+told f (refused n) = refusedLine n
+told f (answered g) = drawingText f (length (g .labels)) (length (g .edges)) (ports g) (chosen g .free) (chosen g .ids)
+
+-- what is printed for any bytes
+unfoldable pub reportText : Format → List ℕ → List ℕ
+reportText f b = told f (read f b >>= unpaired)
