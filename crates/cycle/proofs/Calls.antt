@@ -31,25 +31,7 @@ use Rattle.incidence.proofs.Listing.{few-edges}
 use Rattle.le.proofs.Numbers.{length-row}
 use Rattle.cycle.proofs.Begin.{drawn, drawn-graph}
 use Rattle.cycle.proofs.Flags.{flagged-chosen}
-
--- ---- work room
-
-in-room : {A : Type 0} (needed lent : ℕ) (a : Answer A) → needed ≤ lent → inWorkRoom needed lent a ≡ a
-unfolding inWorkRoom _else_ _>>_
-in-room needed lent a h = rw (le-leb needed lent h)
-
-no-room : {A : Type 0} (needed lent : ℕ) (a : Answer A) → lent < needed → inWorkRoom needed lent a ≡ refused 10
-unfolding inWorkRoom _else_ _>>_
-no-room needed lent a h = rw (lt-leb needed lent h)
-
--- no pending pair, or one
-unpaired-0 : (g : Graph) → length (g .pairs) ≡ 0 → unpaired g ≡ answered g
-unfolding unpaired _else_ _>>_
-unpaired-0 g e = rw (eq-eqb (length (g .pairs)) 0 e)
-
-unpaired-8 : (g : Graph) → (length (g .pairs) ≡ 0 → ⊥) → unpaired g ≡ refused 8
-unfolding unpaired _else_ _>>_
-unpaired-8 g f = rw (ne-eqb (length (g .pairs)) 0 f)
+use Rattle.graph.proofs.Verdicts.{no-room, in-room, unpaired-0, unpaired-8}
 
 -- ---- the no-loop check
 

@@ -23,11 +23,11 @@ use Rattle.graph.specs.Read.{read}
 use Rattle.le.specs.Le.{row, numbers}
 use Rattle.form.proofs.Sections.{encode-sections, labelsOn, edgeLabelsOn, edgesOn, sourcesOn}
 use Rattle.graph.proofs.Steps.{stops, goes}
-use Rattle.graph.proofs.Verdicts.{call-unread, call-stopped, call-made}
+use Rattle.graph.proofs.Verdicts.{call-unread, call-stopped, call-made, no-room, in-room}
 use Rattle.graph.proofs.WriteRead.{length-header}
 use Rattle.le.proofs.Numbers.{numbers-row, length-row}
 use Rattle.le.proofs.Stores.{sets-front}
-use Rattle.delete.proofs.Held.{Held, room-short, room-enough}
+use Rattle.delete.proofs.Held.{Held}
 use Rattle.delete.proofs.Writing.{put-then, put-as}
 
 -- ---- marked or listed is the same
@@ -131,21 +131,21 @@ module _ (b : List ℕ) (z : Sizes) (g : Graph) (h : Held b z g) where
 
 module _ (b ids : List ℕ) (room lent : ℕ) where
   pub edges-10 : lent < 2048 → inWorkRoom 2048 lent (onGraph form1 b room (deleteEdgesStep form1 ids)) ≡ refused 10
-  edges-10 h = room-short 2048 lent (onGraph form1 b room (deleteEdgesStep form1 ids)) h
+  edges-10 h = no-room 2048 lent (onGraph form1 b room (deleteEdgesStep form1 ids)) h
 
   module _ (enough : 2048 ≤ lent) where
     pub edges-unread : (n : ℕ) → read form1 b ≡ refused n → inWorkRoom 2048 lent (onGraph form1 b room (deleteEdgesStep form1 ids)) ≡ refused n
-    edges-unread n e = room-enough 2048 lent (onGraph form1 b room (deleteEdgesStep form1 ids)) enough ∙ call-unread form1 b room (deleteEdgesStep form1 ids) n e
+    edges-unread n e = in-room 2048 lent (onGraph form1 b room (deleteEdgesStep form1 ids)) enough ∙ call-unread form1 b room (deleteEdgesStep form1 ids) n e
 
     module _ (g : Graph) (is : read form1 b ≡ answered g) where
       pub edges-7 : (n : ℕ) → idList form1 (length (g .edges)) ids ≡ refused n → inWorkRoom 2048 lent (onGraph form1 b room (deleteEdgesStep form1 ids)) ≡ refused n
       unfolding deleteEdgesStep
       edges-7 n e =
-          room-enough 2048 lent (onGraph form1 b room (deleteEdgesStep form1 ids)) enough ∙ call-stopped form1 b room (deleteEdgesStep form1 ids) g is n (stops _ e)
+          in-room 2048 lent (onGraph form1 b room (deleteEdgesStep form1 ids)) enough ∙ call-stopped form1 b room (deleteEdgesStep form1 ids) g is n (stops _ e)
 
       pub edges-made : (list : List ℕ) → idList form1 (length (g .edges)) ids ≡ answered list
           → inWorkRoom 2048 lent (onGraph form1 b room (deleteEdgesStep form1 ids)) ≡ made form1 room (record { graph = deleteEdges list g; id = 0 })
       unfolding deleteEdgesStep
       edges-made list e =
-          room-enough 2048 lent (onGraph form1 b room (deleteEdgesStep form1 ids)) enough
+          in-room 2048 lent (onGraph form1 b room (deleteEdgesStep form1 ids)) enough
           ∙ call-made form1 b room (deleteEdgesStep form1 ids) g is (record { graph = deleteEdges list g; id = 0 }) (goes _ e)

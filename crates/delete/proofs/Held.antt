@@ -117,14 +117,3 @@ ids-refused count b r k x e = look (idList form1 count b) refl
     look (answered xs) p =
         let q : list.Refused x ≡ listed (answered xs) = sym e ∙ k ∙ ap listed p in
         let o : _≡_ {A = ℕ} 0 1 = cc in absurd (omega arith)
-
--- ---- the work room
-
-module _ {A : Type 0} (needed lent : ℕ) (a : Answer A) where
-  pub room-short : lent < needed → inWorkRoom needed lent a ≡ refused 10
-  unfolding inWorkRoom _else_ _>>_
-  room-short h = rw (lt-leb needed lent h)
-
-  pub room-enough : needed ≤ lent → inWorkRoom needed lent a ≡ a
-  unfolding inWorkRoom _else_ _>>_
-  room-enough h = rw (le-leb needed lent h)

@@ -16,7 +16,7 @@ use Rattle.graph.specs.Graph.{Graph, form1}
 use Rattle.graph.specs.Read.{read}
 use Rattle.le.specs.Le.{row}
 use Rattle.graph.proofs.Steps.{same-answer, never, came, stops, goes}
-use Rattle.delete.proofs.Held.{room-short, room-enough}
+use Rattle.graph.proofs.Verdicts.{no-room, in-room}
 
 -- ---- result and both buffers of a call with this answer
 
@@ -57,17 +57,17 @@ module _ {A B C D : Type 0} (m : Answer A) (next : A → Answer B) (f : B → C)
 
 module _ (b ids : List ℕ) (room mapRoom lent : ℕ) where
   pub nodes-10 : lent < 2048 → inWorkRoom 2048 lent (deleteNodesCall form1 b ids room mapRoom) ≡ refused 10
-  nodes-10 h = room-short 2048 lent (deleteNodesCall form1 b ids room mapRoom) h
+  nodes-10 h = no-room 2048 lent (deleteNodesCall form1 b ids room mapRoom) h
 
   module _ (enough : 2048 ≤ lent) where
     pub nodes-unread : (n : ℕ) → read form1 b ≡ refused n → inWorkRoom 2048 lent (deleteNodesCall form1 b ids room mapRoom) ≡ refused n
     unfolding deleteNodesCall
-    nodes-unread n e = room-enough 2048 lent (deleteNodesCall form1 b ids room mapRoom) enough ∙ stops _ e
+    nodes-unread n e = in-room 2048 lent (deleteNodesCall form1 b ids room mapRoom) enough ∙ stops _ e
 
     module _ (g : Graph) (is : read form1 b ≡ answered g) where
       pub nodes-7 : (n : ℕ) → idList form1 (length (g .labels)) ids ≡ refused n → inWorkRoom 2048 lent (deleteNodesCall form1 b ids room mapRoom) ≡ refused n
       unfolding deleteNodesCall
-      nodes-7 n e = room-enough 2048 lent (deleteNodesCall form1 b ids room mapRoom) enough ∙ goes _ is ∙ stops _ e
+      nodes-7 n e = in-room 2048 lent (deleteNodesCall form1 b ids room mapRoom) enough ∙ goes _ is ∙ stops _ e
 
       module _ (list : List ℕ) (listed : idList form1 (length (g .labels)) ids ≡ answered list) where
         -- after the list: the form, and then the map
@@ -76,7 +76,7 @@ module _ (b ids : List ℕ) (room mapRoom lent : ℕ) where
 
         reached : inWorkRoom 2048 lent (deleteNodesCall form1 b ids room mapRoom) ≡ (formOf form1 (deleteNodes list g) >>= λ form. fit room form >>= onward)
         unfolding deleteNodesCall onward
-        reached = room-enough 2048 lent (deleteNodesCall form1 b ids room mapRoom) enough ∙ goes _ is ∙ goes _ listed
+        reached = in-room 2048 lent (deleteNodesCall form1 b ids room mapRoom) enough ∙ goes _ is ∙ goes _ listed
 
         pub nodes-stopped : (n : ℕ) → made form1 room (record { graph = deleteNodes list g; id = 0 }) ≡ refused n
             → inWorkRoom 2048 lent (deleteNodesCall form1 b ids room mapRoom) ≡ refused n

@@ -7,7 +7,7 @@ use Prim.Native.Nat.{ℕ, _+_, _*_, _≤_, _<_}
 use native.Mathlib.Omega.{arith}
 use lib.Dec.{eqb}
 use lib.ListN.{length, drop, length-append}
-use borrow.Author.Tests.{le-leb}
+use borrow.Author.Tests.{le-leb, eqb-true, eqb-false}
 use Rattle.choice.specs.Calls.{Cut, cycleBreakingNodesCall}
 use Rattle.choice.specs.Choice.{Above, Ascends}
 use Rattle.choice.specs.Drawing.{chosen}
@@ -26,6 +26,7 @@ use Rattle.choice.proofs.Graphs.{chosen-breaks}
 use Rattle.form.proofs.Whole.{Stored}
 use Rattle.le.proofs.Numbers.{below-widen, length-row, numbers-row}
 use Rattle.report.specs.Report.{refusedLine, drawingText, told, reportText}
+use Rattle.graph.proofs.Verdicts.{in-room, unpaired-0, unpaired-8}
 
 -- numbers that ascend, all above x and below n, are fewer than n - x
 above-few : (n x : ℕ) (xs : List ℕ) → x < n → Above x xs → Below n xs → x + length xs < n
@@ -37,22 +38,9 @@ ascending-few : (n : ℕ) (xs : List ℕ) → Ascends xs → Below n xs → leng
 ascending-few n [] a h = omega arith
 ascending-few n (x ∷ xs) a h = omega (arith, above-few n x xs (h .0) a (h .1))
 
-in-room : {A : Type 0} (needed lent : ℕ) (a : Answer A) → needed ≤ lent → inWorkRoom needed lent a ≡ a
-unfolding inWorkRoom _else_ _>>_
-in-room needed lent a h = rw (le-leb needed lent h)
-
 fits : (l : List ℕ) (room : ℕ) → length l ≤ room → fit room l ≡ answered l
 unfolding fit _else_ _>>_
 fits l room h = rw (le-leb (length l) room h)
-
--- a graph with a pending pair is refused, and one without goes on
-paired : (g : Graph) → eqb (length (g .pairs)) 0 ≡ false → unpaired g ≡ refused 8
-unfolding unpaired _else_ _>>_
-paired g e = rw e
-
-pairless : (g : Graph) → eqb (length (g .pairs)) 0 ≡ true → unpaired g ≡ answered g
-unfolding unpaired _else_ _>>_
-pairless g e = rw e
 
 -- what is told of a drawing of these sizes whose choice was answered with these counts and this list
 pub record Drawing (b : List ℕ) (z : Sizes) (count free : ℕ) (new : List ℕ) : Type 0 where
@@ -107,14 +95,14 @@ module _ (b : List ℕ) where
 
         go : (t : Bool) → eqb (length (s .graph .pairs)) 0 ≡ t → refusedLine (x .no) ≡ reportText form1 b
         go false q =
-            let p = paired (s .graph) q in
+            let p = unpaired-8 (s .graph) (eqb-false _ _ q) in
             let a : cutting.Refused x ≡ cutting.Refused (refusal 8) = sym e ∙ k ∙ ap cut (inside ∙ cut-paired (s .graph) (length old) (s .read-as) p) in
             let same : x ≡ refusal 8 = cc in
             ap (λ (y : Refusal). refusedLine (y .no)) same ∙ text-paired (s .graph) (s .read-as) p
         go true q =
             let c = chosen (s .graph) in
             let a : cutting.Refused x ≡ cutting.Done (length (c .ids)) (c .free) =
-            sym e ∙ k ∙ ap cut (inside ∙ cut-pairless (s .graph) (length old) (s .read-as) (pairless (s .graph) q) chosen-fits) in
+            sym e ∙ k ∙ ap cut (inside ∙ cut-pairless (s .graph) (length old) (s .read-as) (unpaired-0 (s .graph) (eqb-true _ _ q)) chosen-fits) in
             let o : _≡_ {A = ℕ} 0 1 = cc in absurd (omega arith)
 
     -- otherwise it is told
@@ -128,12 +116,12 @@ module _ (b : List ℕ) where
         go : (t : Bool) → eqb (length (s .graph .pairs)) 0 ≡ t → Drawing b z count free new
         go false q =
             let a : cutting.Done count free ≡ cutting.Refused (refusal 8) =
-            sym e ∙ k ∙ ap cut (inside ∙ cut-paired (s .graph) (length old) (s .read-as) (paired (s .graph) q)) in
+            sym e ∙ k ∙ ap cut (inside ∙ cut-paired (s .graph) (length old) (s .read-as) (unpaired-8 (s .graph) (eqb-false _ _ q))) in
             let o : _≡_ {A = ℕ} 0 1 = cc in absurd (omega arith)
         go true q =
             let g = s .graph in
             let c = chosen g in
-            let p = pairless g q in
+            let p = unpaired-0 g (eqb-true _ _ q) in
             let w = inside ∙ cut-pairless g (length old) (s .read-as) p chosen-fits in
             let a : cutting.Done count free ≡ cutting.Done (length (c .ids)) (c .free) = sym e ∙ k ∙ ap cut w in
             let many : count ≡ length (c .ids) = cc in

@@ -150,17 +150,6 @@ few-listed m n = go 0 n
         pick true h = omega arith
         pick false h = omega arith
 
--- ---- work room
-
-module _ {A : Type 0} (needed lent : ℕ) (a : Answer A) where
-  pub short-room : lent < needed → inWorkRoom needed lent a ≡ refused 10
-  unfolding inWorkRoom _else_ _>>_
-  short-room h = rw (lt-leb needed lent h)
-
-  pub enough-room : needed ≤ lent → inWorkRoom needed lent a ≡ a
-  unfolding inWorkRoom _else_ _>>_
-  enough-room h = rw (le-leb needed lent h)
-
 -- ---- a list of ids in a call
 
 module _ (count : ℕ) (b : List ℕ) (r : Listed) (is : r ≡ listed (idList form1 count b)) where

@@ -15,9 +15,9 @@ use Rattle.links.specs.Links.{cells}
 use Rattle.spider.specs.Rewriting.{answeredWith}
 use Rattle.form.proofs.Calls.{gives-refused}
 use Rattle.form.proofs.Whole.{Stored, stored-graph, stored-limits, unread}
-use Rattle.graph.proofs.Verdicts.{call-unread}
+use Rattle.graph.proofs.Verdicts.{call-unread, no-room, in-room}
 use Rattle.le.proofs.Numbers.{below-each}
-use Rattle.spider.proofs.Calls.{short-room, enough-room, listed-all, all-call, call-all-8}
+use Rattle.spider.proofs.Calls.{listed-all, all-call, call-all-8}
 use Rattle.form.proofs.Walk.{whole-of}
 use Rattle.spider.proofs.spiderize.Statement.{statement}
 use Rattle.spider.proofs.spiderize.Tie as tie
@@ -32,7 +32,7 @@ form c =
 returns : tie.Need-returns
 returns c =
     let a = c .before .before .before .before .args in
-    gives-refused _ (now (a .out)) 10 (short-room 16384 (length (now (a .room))) (onGraph form1 (now (a .src)) (length (now (a .out))) spiderizeAllStep) (c .if1 .taken))
+    gives-refused _ (now (a .out)) 10 (no-room 16384 (length (now (a .room))) (onGraph form1 (now (a .src)) (length (now (a .out))) spiderizeAllStep) (c .if1 .taken))
 
 read-requires : tie.Need-read-requires
 read-requires c κs = search needs
@@ -52,7 +52,7 @@ returns-2 c =
     let r = c .before .before .before .read in
     let x = c .before .enum-told .given in
     let n = x .0 .0 .no in
-    let g = gives-refused _ (now (a .out)) n (enough-room 16384 (length (now (a .room))) (onGraph form1 (now (a .src)) (length (now (a .out))) spiderizeAllStep) (omega arith)
+    let g = gives-refused _ (now (a .out)) n (in-room 16384 (length (now (a .room))) (onGraph form1 (now (a .src)) (length (now (a .out))) spiderizeAllStep) (omega arith)
     ∙ call-unread form1 (now (a .src)) (length (now (a .out))) spiderizeAllStep n (unread (now (a .src)) (r .result) (r .ensures) (x .0 .0) (x .1))) in
     (ap Refused (c .refusal .ensures ∙ ap readRefusal (x .1)) ∙ g .0, g .1)
 
@@ -61,7 +61,7 @@ returns-3 c =
     let a = c .before .before .before .before .before .before .before .before .before .before .args in
     let s = form (c .before .before) in
     let z = c .before .before .before .graph .given .0 .0 in
-    gives-refused _ (now (a .out)) 8 (enough-room 16384 (length (now (a .room))) (onGraph form1 (now (a .src)) (length (now (a .out))) spiderizeAllStep) (omega arith) ∙ call-all-8 (now (a .src)) z s [] (length (now (a .out))) (c .if2 .taken))
+    gives-refused _ (now (a .out)) 8 (in-room 16384 (length (now (a .room))) (onGraph form1 (now (a .src)) (length (now (a .out))) spiderizeAllStep) (omega arith) ∙ call-all-8 (now (a .src)) z s [] (length (now (a .out))) (c .if2 .taken))
 
 list-all-requires : tie.Need-list-all-requires
 list-all-requires c κs = let l = stored-limits (form (c .before .before .before)) in omega (arith, l .nodes)
@@ -91,7 +91,7 @@ returns-4 c =
     let W = cells (f .last .0) in
     let room = length (now (a .out)) in
     let e : answeredWith (now (a .src)) z W room ≡ inWorkRoom 16384 (length (now (a .room))) (onGraph form1 (now (a .src)) room spiderizeAllStep) =
-    all-call (now (a .src)) z s W room (c .before .before .before .before .before .before .before .before .before .before .before .if2 .left) (listed-all (z .nodes) W (f .ensures) .0) ∙ sym (enough-room 16384 (length (now (a .room))) (onGraph form1 (now (a .src)) room spiderizeAllStep) (omega arith)) in
+    all-call (now (a .src)) z s W room (c .before .before .before .before .before .before .before .before .before .before .before .if2 .left) (listed-all (z .nodes) W (f .ensures) .0) ∙ sym (in-room 16384 (length (now (a .room))) (onGraph form1 (now (a .src)) room spiderizeAllStep) (omega arith)) in
     (r .ensures .0 ∙ ap written e, r .ensures .1 ∙ ap (λ (x : Answer Made). laid (λ m. m .form) x (now (a .out))) e)
 
 pub spiderize-spec : {M : Type 1} → statement M

@@ -16,9 +16,9 @@ use Rattle.links.specs.Links.{cells}
 use Rattle.spider.specs.Rewriting.{answeredWith}
 use Rattle.form.proofs.Calls.{gives-refused}
 use Rattle.form.proofs.Whole.{Stored, stored-graph, stored-limits, unread}
-use Rattle.graph.proofs.Verdicts.{call-unread}
+use Rattle.graph.proofs.Verdicts.{call-unread, no-room, in-room}
 use Rattle.le.proofs.Numbers.{below-each}
-use Rattle.spider.proofs.Calls.{short-room, enough-room, list-refused, Ids, list-read, listed-ids, nodes-call, call-7, call-8}
+use Rattle.spider.proofs.Calls.{list-refused, Ids, list-read, listed-ids, nodes-call, call-7, call-8}
 use Rattle.form.proofs.Walk.{long, whole-of}
 use Rattle.spider.proofs.spiderize_nodes.Statement.{statement}
 use Rattle.spider.proofs.spiderize_nodes.Tie as tie
@@ -37,7 +37,7 @@ ids c = list-read (c .before .before .before .before .before .graph .given .0 .0
 returns : tie.Need-returns
 returns c =
     let a = c .before .before .before .before .before .args in
-    gives-refused _ (now (a .out)) 10 (short-room 16384 (length (now (a .room))) (onGraph form1 (now (a .src)) (length (now (a .out))) (spiderizeStep form1 (now (a .ids)))) (c .if1 .taken))
+    gives-refused _ (now (a .out)) 10 (no-room 16384 (length (now (a .room))) (onGraph form1 (now (a .src)) (length (now (a .out))) (spiderizeStep form1 (now (a .ids)))) (c .if1 .taken))
 
 read-requires : tie.Need-read-requires
 read-requires c κs = search needs
@@ -58,7 +58,7 @@ returns-2 c =
     let x = c .before .enum-told .given in
     let n = x .0 .0 .no in
     let step = spiderizeStep form1 (now (a .ids)) in
-    let g = gives-refused _ (now (a .out)) n (enough-room 16384 (length (now (a .room))) (onGraph form1 (now (a .src)) (length (now (a .out))) step) (omega arith)
+    let g = gives-refused _ (now (a .out)) n (in-room 16384 (length (now (a .room))) (onGraph form1 (now (a .src)) (length (now (a .out))) step) (omega arith)
     ∙ call-unread form1 (now (a .src)) (length (now (a .out))) step n (unread (now (a .src)) (r .result) (r .ensures) (x .0 .0) (x .1))) in
     (ap Refused (c .refusal .ensures ∙ ap readRefusal (x .1)) ∙ g .0, g .1)
 
@@ -82,7 +82,7 @@ returns-3 c =
     let l = c .before .before .before .id-list in
     let x = c .before .enum-told2 .given in
     let n = x .0 .0 .no in
-    let g = gives-refused _ (now (a .out)) n (enough-room 16384 (length (now (a .room))) (onGraph form1 (now (a .src)) (length (now (a .out))) (spiderizeStep form1 (now (a .ids)))) (omega arith)
+    let g = gives-refused _ (now (a .out)) n (in-room 16384 (length (now (a .room))) (onGraph form1 (now (a .src)) (length (now (a .out))) (spiderizeStep form1 (now (a .ids)))) (omega arith)
     ∙ call-7 (now (a .src)) z s [] (length (now (a .out))) (now (a .ids)) n (list-refused (z .nodes) (now (a .ids)) (l .result) (l .ensures) (x .0 .0) (x .1))) in
     (ap Refused (c .refusal2 .ensures ∙ ap listRefusal (x .1)) ∙ g .0, g .1)
 
@@ -92,7 +92,7 @@ returns-4 c =
     let s = form (c .before .before .before .before .before .before) in
     let z = c .before .before .before .before .before .before .before .graph .given .0 .0 in
     let i = ids (c .before .before) in
-    gives-refused _ (now (a .out)) 8 (enough-room 16384 (length (now (a .room))) (onGraph form1 (now (a .src)) (length (now (a .out))) (spiderizeStep form1 (now (a .ids)))) (omega arith)
+    gives-refused _ (now (a .out)) 8 (in-room 16384 (length (now (a .room))) (onGraph form1 (now (a .src)) (length (now (a .out))) (spiderizeStep form1 (now (a .ids)))) (omega arith)
     ∙ call-8 (now (a .src)) z s [] (length (now (a .out))) (now (a .ids)) _ (i .is-list) (c .if2 .taken))
 
 list-none-requires : tie.Need-list-none-requires
@@ -136,7 +136,7 @@ returns-5 c =
     let room = length (now (a .out)) in
     let e : answeredWith (now (a .src)) z W room ≡ inWorkRoom 16384 (length (now (a .room))) (onGraph form1 (now (a .src)) room (spiderizeStep form1 (now (a .ids)))) =
     nodes-call (now (a .src)) z s W room (now (a .ids)) _ (i .is-list) (c .before .before .before .before .before .before .before .before .before .before .before .before .before .before .before .if2 .left) (listed-ids (z .nodes) W (numbers 2 (c .before .before .before .before .before .before .before .before .before .before .before .before .before .before .before .before .before .before .list .given .0 .0) (now (a .ids))) (i .below) (g .ensures (f .ensures)) .0)
-    ∙ sym (enough-room 16384 (length (now (a .room))) (onGraph form1 (now (a .src)) room (spiderizeStep form1 (now (a .ids)))) (omega (arith, c .before .before .before .before .before .before .before .before .before .before .before .before .before .before .before .before .before .before .before .before .before .before .before .before .before .if1 .left))) in
+    ∙ sym (in-room 16384 (length (now (a .room))) (onGraph form1 (now (a .src)) room (spiderizeStep form1 (now (a .ids)))) (omega (arith, c .before .before .before .before .before .before .before .before .before .before .before .before .before .before .before .before .before .before .before .before .before .before .before .before .before .if1 .left))) in
     (r .ensures .0 ∙ ap written e, r .ensures .1 ∙ ap (λ (x : Answer Made). laid (λ m. m .form) x (now (a .out))) e)
 
 pub spiderize-nodes-spec : {M : Type 1} → statement M
