@@ -7,7 +7,7 @@ use Prim.Native.Nat.{ℕ, _*_, _≤_, _<_}
 use native.Mathlib.Omega.{arith}
 use lib.ListN.{length}
 use lib.Seq.{sets}
-use borrow.Author.Tests.{le-leb, lt-leb, eq-eqb, ne-eqb}
+use borrow.Author.Tests.{le-leb, lt-leb}
 use Rattle.choice.specs.Calls.{Cut, noLoopCall, cycleBreakingNodesCall}
 use Rattle.choice.specs.Choice.{Chosen}
 use Rattle.choice.specs.Drawing.{chosen, noLoop}
@@ -20,7 +20,7 @@ use Rattle.form.specs.Form.{refusal, checked}
 use Rattle.form.specs.declared.Sizes.{Sizes}
 use Rattle.graph.specs.Answer.{Answer, refused, answered, lay, laid, _else_, _>>=_, _>>_}
 use Rattle.graph.specs.Calls.{unpaired, fit, inWorkRoom}
-use Rattle.graph.specs.Graph.{Graph, form1}
+use Rattle.graph.specs.Graph.{form1}
 use Rattle.graph.specs.Read.{read}
 use Rattle.form.specs.Stored.{graphOf}
 use Rattle.le.specs.Le.{row}

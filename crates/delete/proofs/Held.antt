@@ -2,11 +2,10 @@
 -- Assumes nothing.
 use mathlib.Core.List.{List}
 use mathlib.Core.Path.{_≡_, refl, sym, ap, _∙_, subst}
-use Prim.Native.Nat.{ℕ, _*_, _/_, _%_, _≤_, _<_}
+use Prim.Native.Nat.{ℕ, _*_, _/_, _%_, _≤_}
 use native.Mathlib.Omega.{arith}
 use lib.Dec.{eqb}
 use lib.ListN.{length}
-use borrow.Author.Tests.{le-leb, lt-leb}
 use Rattle.delete.specs.Writes.{EdgesAt}
 use Rattle.form.specs.Form.{refusal, sizesOf, edgesAt, reading, listed}
 use Rattle.form.specs.declared.Listed.the-variants as list
@@ -14,8 +13,8 @@ use Rattle.form.specs.declared.Listed.{Listed}
 use Rattle.form.specs.declared.Reading.the-variants.{Sized}
 use Rattle.form.specs.declared.Refusal.{Refusal}
 use Rattle.form.specs.declared.Sizes.{Sizes}
-use Rattle.graph.specs.Answer.{Answer, refused, answered, _else_, _>>_}
-use Rattle.graph.specs.Calls.{idList, inWorkRoom}
+use Rattle.graph.specs.Answer.{Answer, refused, answered}
+use Rattle.graph.specs.Calls.{idList}
 use Rattle.graph.specs.Form.{encode}
 use Rattle.graph.specs.Graph.{Graph, edgeEntries, form1, WellFormed}
 use Rattle.graph.specs.Lists.{allBelow}

@@ -26,6 +26,7 @@ use Rattle.form.specs.declared.Fit.{Fit}
 use Rattle.form.specs.declared.Fit.the-variants as fit
 use Rattle.form.specs.declared.Written.{Written}
 use Rattle.form.specs.declared.Written.the-variants as write
+use Rattle.form.specs.declared.reader.Reader.{Reader}
 
 abbrev pub refusal : ℕ → Refusal
 refusal n = record { no = n }
@@ -133,3 +134,7 @@ nameRefusal (name.Refused x) = x
 abbrev pub fitRefusal : Fit → Refusal
 fitRefusal (fit.Bytes n) = refusal 0
 fitRefusal (fit.Refused x) = x
+
+-- a reader this many bytes on
+abbrev pub past : ℕ → Reader → Reader
+past n r = record { src = r .src; at = r .at + n }

@@ -1,4 +1,6 @@
 // The stored form in code: reading any bytes with refusals 1 to 6, the checks of lists in a call (7), and the pieces that writers are made of.
+mod reader;
+
 ghost use mathlib.Core.Path.{_≡_};
 ghost use Prim.Native.Nat.{ℕ, _+_, _*_, _<_, _≤_, max};
 ghost use mathlib.Core.List.{List, [], _∷_, _++_};
@@ -10,12 +12,14 @@ ghost use Rattle.graph.specs.Graph.{Edge, form1, countsFit, edgeEntries, Within
 ghost use Rattle.graph.specs.Form.{mark, header, formBytes};
 ghost use Rattle.graph.specs.Answer.{laid};
 ghost use Rattle.graph.specs.Read as form;
-ghost use Rattle.graph.specs.Read.{countsAt, readCounts, readEdge, readEdges, readLists, readBody};
-ghost use Rattle.graph.specs.Calls.{onGraph, rewriteStep, readCall, idList, labelList};
+ghost use Rattle.graph.specs.Read.{readCounts, readEdge, readEdges, readLists, readBody};
 ghost use Rattle.graph.specs.Calls as calls;
-ghost use Rattle.form.specs.Form.{named, nameRefusal};
+ghost use Rattle.graph.specs.Calls.{onGraph, rewriteStep, readCall, idList, labelList};
 ghost use Rattle.form.specs.Reach.{reach};
-ghost use Rattle.form.specs.Form.{counted, sized, countsOf, headed, reading, edgeStep, edgesStep, listed, written, stored, readRefusal, stepRefusal, listRefusal, fitRefusal, edgesAt, listsAt, fitted};
+ghost use Rattle.form.specs.Form.{counted, countsOf, headed, reading, edgeStep, edgesStep, listed, named, written, stored, readRefusal, stepRefusal, listRefusal, nameRefusal, fitRefusal, edgesAt, listsAt, fitted};
+use reader::counts_at;
+use reader::ids_at;
+use reader::labels_end;
 
 // The bytes of a count or an id.
 pub const WIDTH: usize = 2;
@@ -67,27 +71,12 @@ fn marked(s: &[u8]) -> bool
     s[2] == 71
 }
 
-// The count of the header at a place.
+// The count at a place.
 fn count_at(s: &[u8], at: usize) -> usize
     requires { ⌜ at + 2 ≤ length (now s) ⌝ }
     ensures { λ r. ⌜ (r ≡ numberAt 2 (now (s .entry)) at) × (r < 65536) ⌝ }
 {
     le::get2(s, at) as usize
-}
-
-// The five counts of the header.
-fn counts_at(s: &[u8]) -> Sizes
-    requires { ⌜ 15 ≤ length (now s) ⌝ }
-    ensures { λ r. ⌜ r ≡ sized (countsAt form1 (now (s .entry))) 0 ⌝ }
-{
-    Sizes {
-        nodes: count_at(s, 5),
-        edges: count_at(s, 7),
-        ports: 0,
-        sources: count_at(s, 9),
-        targets: count_at(s, 11),
-        pairs: count_at(s, 13),
-    }
 }
 
 // Whether no count is above its limit.
@@ -202,11 +191,11 @@ fn read_edge(s: &[u8], at: usize, sum: usize, bound: u32) -> Step
     if left - 4 < n * WIDTH {
         return Step::Refused(Refusal { no: 5 });
     }
-    let most = reach_of(s, at + 4, n, bound);
+    let ids = ids_at(s, at + 4, n, bound);
     Step::Next {
         ports,
-        at: at + 4 + n * WIDTH,
-        bound: most,
+        at: ids.end,
+        bound: ids.bound,
     }
 }
 
@@ -263,11 +252,11 @@ fn read_body(s: &[u8], z: Sizes) -> Reading
     requires { ⌜ (15 ≤ length (now s)) × Within form1 (countsOf z) ⌝ }
     ensures { λ r. ⌜ r ≡ reading (readBody form1 (countsOf z) (drop 15 (now (s .entry)))) ⌝ }
 {
-    let labels = (z.nodes + z.edges) * 4;
-    if s.len() - graph::HEADER_BYTES < labels {
+    let labels = z.nodes + z.edges;
+    if s.len() - graph::HEADER_BYTES < labels * 4 {
         return Reading::Refused(Refusal { no: 5 });
     }
-    let edges = read_edges(s, graph::HEADER_BYTES + labels, z.edges);
+    let edges = read_edges(s, labels_end(s, labels), z.edges);
     let Step::Next { ports, at, bound } = edges else {
         return Reading::Refused(edges.refusal());
     };

@@ -1,7 +1,7 @@
 // Building graphs: each call reads a stored graph, checks what it was given, and writes the new graph. Nothing is written before every check has passed.
 ghost use mathlib.Core.Path.{_≡_};
-ghost use Prim.Native.Nat.{ℕ, _+_, _*_, _/_, _-_, _<_, _≤_};
-ghost use mathlib.Core.List.{List, [], _∷_, _++_};
+ghost use Prim.Native.Nat.{_+_, _*_, _/_, _-_, _<_, _≤_};
+ghost use mathlib.Core.List.{[], _∷_, _++_};
 ghost use lib.ListN.{length, take, drop};
 ghost use lib.Seq.{sets};
 ghost use Rattle.le.specs.Le.{bytes, row};
@@ -9,7 +9,7 @@ ghost use Rattle.graph.specs.Lists.{range};
 ghost use Rattle.graph.specs.Graph.{form1, Within};
 ghost use Rattle.graph.specs.Form.{header};
 ghost use Rattle.graph.specs.Answer.{laid};
-ghost use Rattle.graph.specs.Calls.{onNothing, onGraph, emptyStep, discreteStep, newNodeStep, newEdgeStep, newOperationStep, unifyStep, addEdgeSourceStep, addEdgeTargetStep};
+ghost use Rattle.graph.specs.Calls.{onNothing, onGraph, emptyStep, discreteStep, newNodeStep, newEdgeStep, newOperationStep, unifyStep};
 ghost use Rattle.form.specs.Form.{countsOf, written, edgesAt, listsAt};
 use form::Fit;
 use form::Listed;

@@ -3,12 +3,12 @@
 use mathlib.Core.Bool.{Bool, true, false, cond}
 use mathlib.Core.List.{List, [], _∷_, _++_, map, append-assoc, append-nil}
 use mathlib.Core.Path.{_≡_, refl, sym, ap, _∙_, subst}
-use Prim.Native.Nat.{ℕ, zero, suc, _+_, _*_, _/_, _%_, _≤_, _<_}
+use Prim.Native.Nat.{ℕ, zero, suc, _+_, _*_, _/_, _%_, _≤_}
 use native.Mathlib.Omega.{arith}
 use lib.Dec.{eqb, ltb}
 use lib.ListN.{length, length-append, length-map}
 use lib.Seq.{sets}
-use borrow.Author.Tests.{eq-eqb, ne-eqb, le-leb, lt-leb, lt-ltb, le-ltb}
+use borrow.Author.Tests.{eq-eqb, ne-eqb, lt-ltb, le-ltb}
 use Rattle.form.specs.Form.{refusal, listed, countsOf, sizesOf, edgesAt, listsAt, fitted}
 use Rattle.form.specs.declared.Fit.the-variants as fit
 use Rattle.form.specs.declared.Listed.the-variants as list
@@ -16,7 +16,7 @@ use Rattle.form.specs.declared.Listed.{Listed}
 use Rattle.form.specs.declared.Refusal.{Refusal}
 use Rattle.form.specs.declared.Sizes.{Sizes}
 use Rattle.graph.specs.Answer.{Answer, refused, answered, lay, _else_, _>>=_, _>>_}
-use Rattle.graph.specs.Calls.{idList, unpaired, inWorkRoom, onGraph, made, spiderizeStep, spiderizeAllStep}
+use Rattle.graph.specs.Calls.{idList, unpaired, onGraph, made, spiderizeStep, spiderizeAllStep}
 use Rattle.graph.specs.Form.{header, edgeBytes, encode, formBytes}
 use Rattle.graph.specs.Graph.{Edge, Graph, counts, form1, edgeEntries}
 use Rattle.graph.specs.Lists.{keep, joined, range, among, allBelow, flat}

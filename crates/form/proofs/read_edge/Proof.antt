@@ -1,8 +1,11 @@
 -- `form::read_edge` meets its contract.
 -- Assumes nothing.
+use mathlib.Core.Path.{ap, _∙_}
+use Prim.Native.Nat.{ℕ, _+_}
 use native.Mathlib.Omega.{arith}
 use denote.Ref.{now}
 use borrow.Author.Needs.{needs}
+use Rattle.form.specs.declared.Step.the-variants.{Next}
 use Rattle.form.proofs.Edge.{cut, over, short, whole}
 use Rattle.form.proofs.read_edge.Statement.{statement}
 use Rattle.form.proofs.read_edge.Tie as tie
@@ -28,23 +31,20 @@ mul-if3 c = search needs
 returns-3 : tie.Need-returns-3
 returns-3 c = λ label. short (now (c .before .before .before .before .before .args .s)) (c .before .before .before .before .before .args .at) (c .before .before .before .before .before .args .sum) (c .before .before .before .before .before .args .bound) (omega arith) label (c .before .before .ports-at .result) (c .before .before .ports-at .ensures .0) (omega arith) (omega arith) (omega arith)
 
-add-reach-of : tie.Need-add-reach-of
-add-reach-of c = search needs
+add-ids-at : tie.Need-add-ids-at
+add-ids-at c = search needs
 
-reach-of-requires : tie.Need-reach-of-requires
-reach-of-requires c κs = search needs
-
-add-t13 : tie.Need-add-t13
-add-t13 c = search needs
-
-mul-t9 : tie.Need-mul-t9
-mul-t9 c = search needs
-
-add-t15 : tie.Need-add-t15
-add-t15 c = search needs
+ids-at-requires : tie.Need-ids-at-requires
+ids-at-requires c κs = search needs
 
 returns-4 : tie.Need-returns-4
-returns-4 c = λ label. whole (now (c .before .before .before .before .before .before .args .s)) (c .before .before .before .before .before .before .args .at) (c .before .before .before .before .before .before .args .sum) (c .before .before .before .before .before .before .args .bound) (omega arith) label (c .before .before .before .ports-at .result) (c .before .before .before .ports-at .ensures .0) (omega arith) (omega arith) (omega arith) (c .reach-of .result) (c .reach-of .ensures)
+returns-4 c = λ label.
+    let a = c .before .before .before .before .before .before .args in
+    let n = c .before .before .before .ports-at .result in
+    let ids = c .ids-at .result in
+    ap (λ (at : ℕ). Next (a .sum + n) at (ids .bound)) (c .ids-at .ensures .0)
+    ∙ whole (now (a .s)) (a .at) (a .sum) (a .bound) (omega arith) label n (c .before .before .before .ports-at .ensures .0) (omega arith) (omega arith) (omega arith)
+    (ids .bound) (c .ids-at .ensures .1)
 
 pub read-edge-spec : {M : Type 1} → statement M
 read-edge-spec =
@@ -57,9 +57,6 @@ read-edge-spec =
     returns-2
     mul-if3
     returns-3
-    add-reach-of
-    reach-of-requires
-    add-t13
-    mul-t9
-    add-t15
+    add-ids-at
+    ids-at-requires
     returns-4)
