@@ -1,0 +1,184 @@
+#include <string.h>
+
+#include "hostile.h"
+
+/* What ohg_read says of a case's graph. */
+struct graph {
+    unsigned code; /* 0 where there is no graph */
+    uint32_t nodes, edges, pairs;
+};
+
+static uint32_t get(const uint8_t *at, int bytes) {
+    uint32_t n = 0;
+    while (bytes--) n = n << 8 | at[bytes];
+    return n;
+}
+
+size_t fitted(uint8_t fit, size_t exact, size_t most) {
+    size_t len;
+    switch (fit % FITS) {
+    case 0: len = 0; break;
+    case 1: len = exact ? exact - 1 : 0; break;
+    case 2: len = exact; break;
+    case 3: len = exact + 1; break;
+    case 4: len = most; break;
+    default: len = exact * fit / 255; break;
+    }
+    return len < most ? len : most;
+}
+
+void ample(const struct call *c, size_t length[LENGTHS]) {
+    /* each node of 4 bytes becomes at most a node and two edges, 24; each entry of 2 at most a node and two entries, 8 */
+    size_t len = 64 + 6 * c->src.len + 4 * (c->list[0].len + c->list[1].len);
+    for (int i = 0; i < OUTS; i++) length[i] = len < OUT_MOST ? len : OUT_MOST;
+    length[OUTS] = functions[c->function].room;
+}
+
+/* A call on the case's graph or on an answer, with ample buffers. */
+static uint64_t follow(struct desk *d, unsigned function, struct slice src, struct slice list, struct lent *l) {
+    struct call c = {.function = function, .sides = any(&d->garbage), .src = src, .list = {list}};
+    size_t length[LENGTHS];
+    ample(&c, length);
+    *l = lend_inputs(d, &c);
+    uint64_t returned = call_once(d, function, l, length, any(&d->garbage));
+    take_inputs_back(l);
+    return returned;
+}
+
+static struct graph read_graph(struct desk *d, struct slice src) {
+    struct lent l;
+    uint64_t returned = follow(d, READ, src, (struct slice){0}, &l);
+    struct graph g = {.code = OHG_CODE(returned)};
+    if (g.code) return g;
+    const uint8_t *sizes = answered(d, &l, 0);
+    g.nodes = get(sizes, 4);
+    g.edges = get(sizes + 4, 4);
+    g.pairs = get(sizes + 20, 4);
+    return g;
+}
+
+/* What a and b may be on success. */
+static void check_numbers(const struct function *f, const struct graph *g, uint64_t returned) {
+    uint32_t a = OHG_A(returned), b = OHG_B(returned), due = 0;
+    if (f->second == NODE_ID || f->second == ENTRIES) due = g->nodes;
+    if (f->second == EDGE_ID) due = g->edges;
+    if (f->second == FREE ? a > g->nodes || b > g->nodes + g->edges - a : b != due) fail(f->name, "b is what its comment says");
+    if (f->answers == SIZES && a != OHG_SIZES_BYTES) fail(f->name, "the sizes have 24 bytes");
+    if (f->answers == YES && a > 1) fail(f->name, "a check answers 0 or 1");
+    if ((f->answers == FORM || f->answers == FORM_AND_MAP) && (a < 15 || a > OHG_FORM_BYTES)) fail(f->name, "a form has 15 to 49,167 bytes");
+}
+
+/* The refusals that follow from what ohg_read says of the graph. */
+static void check_code(const struct function *f, const struct graph *g, unsigned code) {
+    if (code == OHG_SHORT_BUFFER) fail(f->name, "long buffers are not refused");
+    bool reading = code >= OHG_NO_HEADER && code <= OHG_FOREIGN_ID;
+    if (g->code ? code != g->code : reading) fail(f->name, "every function reads the graph alike");
+    if (code == OHG_PENDING_PAIR && !g->pairs) fail(f->name, "8 is for a graph with a pair");
+    bool needs_none = f->codes >> OHG_PENDING_PAIR & 1;
+    if (!g->code && g->pairs && needs_none && code != OHG_PENDING_PAIR && code != OHG_BAD_LIST) fail(f->name, "a pair is refused");
+}
+
+/* An answered form is read, and written again as the same bytes. Returns its node count. */
+static uint32_t check_form(struct desk *d, const struct function *f, struct slice form) {
+    struct graph g = read_graph(d, form);
+    if (g.code) fail(f->name, "ohg_read takes the answered form");
+    struct lent l;
+    uint64_t returned = follow(d, REWRITE, form, (struct slice){0}, &l);
+    if (returned != (uint64_t)form.len << 8 || memcmp(answered(d, &l, 0), form.at, form.len) != 0)
+        fail(f->name, "ohg_rewrite gives the answered form again");
+    return g.nodes;
+}
+
+/* The nodes that stay are numbered in order. */
+static void check_map(const struct function *f, struct slice map, uint32_t stay) {
+    uint32_t next = 0;
+    for (size_t i = 0; i < map.len; i += 2) {
+        uint32_t to = get(map.at + i, 2);
+        if (to != 0xFFFF && to != next++) fail(f->name, "the map numbers what stays in order");
+    }
+    if (next != stay) fail(f->name, "the map numbers each node of the answer");
+}
+
+static bool yes(struct desk *d, struct slice form) {
+    struct lent l;
+    uint64_t returned = follow(d, NO_LOOP, form, (struct slice){0}, &l);
+    if (OHG_CODE(returned)) fail(functions[NO_LOOP].name, "it answers on a form without pairs");
+    return OHG_A(returned);
+}
+
+/* The chosen list ascends, is empty only without a loop, and breaks every loop, by deleting and by spiderizing. */
+static void check_list(struct desk *d, const struct function *f, struct slice src, struct slice list, const struct graph *g) {
+    static uint8_t kept[OUT_MOST];
+    for (size_t i = 0; i < list.len; i += 2) {
+        if (get(list.at + i, 2) >= g->nodes) fail(f->name, "the list has nodes of the graph");
+        if (i && get(list.at + i - 2, 2) >= get(list.at + i, 2)) fail(f->name, "the list ascends");
+    }
+    if (yes(d, src) != (list.len == 0)) fail(f->name, "the list is empty exactly when there is no loop");
+    static const unsigned cuts[] = {DELETE_NODES, SPIDERIZE_NODES};
+    for (int i = 0; i < 2; i++) {
+        struct lent l;
+        uint64_t returned = follow(d, cuts[i], src, list, &l);
+        unsigned code = OHG_CODE(returned);
+        if (code == OHG_RESULT_LIMIT) continue;
+        if (code) fail(functions[cuts[i]].name, "it takes a chosen list");
+        struct slice cut = {kept, OHG_A(returned)};
+        memcpy(kept, answered(d, &l, 0), cut.len);
+        if (!yes(d, cut)) fail(functions[cuts[i]].name, "a chosen list leaves no loop");
+    }
+}
+
+/* The call with the buffers that the case names: the same answer, or 10 where one is too short. */
+static void call_again(struct desk *d, const struct call *c, const struct outcome *o) {
+    const struct function *f = &functions[c->function];
+    size_t length[LENGTHS];
+    uint64_t due = o->returned;
+    for (int i = 0; i < f->outs; i++) {
+        size_t exact = OHG_CODE(o->returned) ? c->src.len : o->len[i];
+        length[i] = fitted(c->fit[i], exact, OUT_MOST);
+        if (!OHG_CODE(o->returned) && length[i] < o->len[i]) due = OHG_SHORT_BUFFER;
+    }
+    length[OUTS] = fitted(c->fit[OUTS], f->room, f->room + 4096);
+    if (length[OUTS] < f->room) due = OHG_SHORT_BUFFER;
+    struct call other = *c;
+    other.sides = ~c->sides;
+    struct lent l = lend_inputs(d, &other);
+    uint64_t returned = call_once(d, c->function, &l, length, other.sides >> 3);
+    take_inputs_back(&l);
+    if (returned != due) fail(f->name, "the same arguments with other buffers return the same, or 10");
+    for (int i = 0; !OHG_CODE(returned) && i < f->outs; i++)
+        if (memcmp(answered(d, &l, i), o->bytes[i], o->len[i]) != 0) fail(f->name, "the same arguments answer the same bytes");
+}
+
+/* What holds of an answer, by itself and by calls on it. */
+static void check_answer(struct desk *d, const struct call *c, const struct outcome *o, const struct graph *g) {
+    const struct function *f = &functions[c->function];
+    struct slice first = {(uint8_t *)o->bytes[0], o->len[0]}, second = {(uint8_t *)o->bytes[1], o->len[1]};
+    check_numbers(f, g, o->returned);
+    if (f->answers == FORM || f->answers == FORM_AND_MAP) {
+        uint32_t nodes = check_form(d, f, first);
+        if (f->answers == FORM_AND_MAP) check_map(f, second, nodes);
+    }
+    bool same = first.len == c->src.len && memcmp(first.at, c->src.at, first.len) == 0;
+    if (c->function == REWRITE && !same) fail(f->name, "it gives the bytes that it read");
+    if (f->answers == LIST) check_list(d, f, c->src, first, g);
+}
+
+void run_case(struct desk *d, const struct call *c, struct outcome *o) {
+    current = c;
+    const struct function *f = &functions[c->function];
+    struct graph g = {0};
+    if (f->graph) g = read_graph(d, c->src);
+    size_t length[LENGTHS];
+    ample(c, length);
+    struct lent l = lend_inputs(d, c);
+    o->returned = call_once(d, c->function, &l, length, c->sides >> 3);
+    take_inputs_back(&l);
+    check_code(f, &g, OHG_CODE(o->returned));
+    for (int i = 0; i < OUTS; i++) {
+        o->len[i] = i < f->outs ? written(f, o->returned, i) : 0;
+        if (o->len[i]) memcpy(o->bytes[i], answered(d, &l, i), o->len[i]);
+    }
+    call_again(d, c, o);
+    if (OHG_CODE(o->returned) == OHG_DONE) check_answer(d, c, o, &g);
+    current = NULL;
+}

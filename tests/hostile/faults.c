@@ -1,0 +1,79 @@
+/* The port with a fault planted in it, which OHG_FAULT numbers. Linked in between (ld's --wrap), so that it can be seen that each is found. */
+#include <sched.h>
+#include <stdlib.h>
+#include <string.h>
+
+#include "hostile.h"
+
+uint64_t __real_ohg_rewrite(const uint8_t *src, size_t src_len, uint8_t *out, size_t out_len);
+uint64_t __wrap_ohg_rewrite(const uint8_t *src, size_t src_len, uint8_t *out, size_t out_len);
+uint64_t __real_ohg_delete_nodes(const uint8_t *src, size_t src_len, const uint8_t *ids, size_t ids_len, uint8_t *out, size_t out_len, uint8_t *map,
+                                 size_t map_len, uint8_t *room, size_t room_len);
+uint64_t __wrap_ohg_delete_nodes(const uint8_t *src, size_t src_len, const uint8_t *ids, size_t ids_len, uint8_t *out, size_t out_len, uint8_t *map,
+                                 size_t map_len, uint8_t *room, size_t room_len);
+uint64_t __real_ohg_cycle_breaking_nodes(const uint8_t *src, size_t src_len, uint8_t *list, size_t list_len, uint8_t *room, size_t room_len);
+uint64_t __wrap_ohg_cycle_breaking_nodes(const uint8_t *src, size_t src_len, uint8_t *list, size_t list_len, uint8_t *room, size_t room_len);
+
+static int planted(void) {
+    static int number = -1;
+    if (number < 0) number = getenv("OHG_FAULT") ? atoi(getenv("OHG_FAULT")) : 0;
+    return number;
+}
+
+static volatile uint8_t seen;
+
+/* Keeps the answer in memory that all threads share. */
+static void through_shared(uint8_t *out, size_t n) {
+    static uint8_t shared[OHG_FORM_BYTES];
+    memcpy(shared, out, n);
+    sched_yield();
+    memcpy(out, shared, n);
+}
+
+static void deep_stack(void) {
+    volatile uint8_t deep[300 * 1024];
+    for (size_t i = 0; i < sizeof deep; i += 512) deep[i] = 1;
+}
+
+uint64_t __wrap_ohg_rewrite(const uint8_t *src, size_t src_len, uint8_t *out, size_t out_len) {
+    uint64_t r = __real_ohg_rewrite(src, src_len, out, out_len);
+    bool done = OHG_CODE(r) == OHG_DONE;
+    size_t n = OHG_A(r);
+    switch (planted()) {
+    case 1: out[out_len] ^= 1; break;
+    case 2: out[-1] ^= 1; break;
+    case 3: seen = src[src_len]; break;
+    case 4: seen = src[-1]; break;
+    case 5: if (src_len) *(volatile uint8_t *)src = *src; break;
+    case 6: if (done && n < out_len) out[n] ^= 1; break;
+    case 7: if (!done && out_len) out[out_len - 1] ^= 1; break;
+    case 8: return done ? r : r | 256;
+    case 9: return r == OHG_OTHER_LENGTH ? OHG_PENDING_PAIR : r;
+    case 10: return r == OHG_OTHER_LENGTH ? OHG_FOREIGN_ID : r;
+    case 11: if (n > 15) out[n - 1] ^= 1; break;
+    case 12: if (done) through_shared(out, n); break;
+    case 13: deep_stack(); break;
+    }
+    return r;
+}
+
+uint64_t __wrap_ohg_delete_nodes(const uint8_t *src, size_t src_len, const uint8_t *ids, size_t ids_len, uint8_t *out, size_t out_len, uint8_t *map,
+                                 size_t map_len, uint8_t *room, size_t room_len) {
+    uint8_t garbage = room_len ? *room : 0;
+    uint64_t r = __real_ohg_delete_nodes(src, src_len, ids, ids_len, out, out_len, map, map_len, room, room_len);
+    switch (planted()) {
+    case 14: room[room_len] ^= 1; break;
+    case 15: room[-1] ^= 1; break;
+    case 16: if (OHG_A(r) > 15) out[15] ^= garbage & 1; break;
+    case 17: if (OHG_B(r)) map[0] ^= 1; break;
+    }
+    return r;
+}
+
+uint64_t __wrap_ohg_cycle_breaking_nodes(const uint8_t *src, size_t src_len, uint8_t *list, size_t list_len, uint8_t *room, size_t room_len) {
+    uint64_t r = __real_ohg_cycle_breaking_nodes(src, src_len, list, list_len, room, room_len);
+    size_t n = OHG_A(r);
+    if (planted() == 18 && n > 1) memcpy(list + 2 * n - 2, list, 2);
+    if (planted() == 19 && n == 1 && list[0]) list[0] = 0;
+    return r;
+}

@@ -1,0 +1,160 @@
+/* What the parts of this program share. README.md says what it is for. */
+#ifndef HOSTILE_H
+#define HOSTILE_H
+
+#include <stdbool.h>
+#include <stddef.h>
+#include <stdint.h>
+
+#include "ohg.h"
+
+#ifdef __has_feature
+#if __has_feature(address_sanitizer)
+#define ADDRESS_SANITIZER 1
+#elif __has_feature(memory_sanitizer)
+#define MEMORY_SANITIZER 1
+#endif
+#endif
+
+enum { FUNCTIONS = 19, CODES = 11, LISTS = 2, OUTS = 2, LENGTHS = OUTS + 1, FITS = 8, GUARD = 256 };
+
+/* The most bytes that are lent: more than any of them has a use for. */
+enum { SRC_MOST = 1 << 16, LIST_MOST = 1 << 19, OUT_MOST = OHG_FORM_BYTES + 1024, ROOM_MOST = OHG_ROOM_CYCLE_BREAKING_NODES + 4096 };
+
+struct slice {
+    uint8_t *at;
+    size_t len;
+};
+
+/* ---- functions.c: what bindings/ohg.h and docs/INTERFACE.md say of each function ---- */
+
+/* All that a call is given. */
+struct lent {
+    uint32_t number[2];
+    struct slice src, list[LISTS], out[OUTS], room;
+};
+
+enum answers { SIZES, FORM, FORM_AND_MAP, LIST, YES };
+enum second { NOTHING, NODE_ID, EDGE_ID, ENTRIES, FREE }; /* what b is */
+enum numbers { NO_NUMBER, LABEL, TWO_NODES, EDGE_AND_LABEL };
+enum entries { NO_LIST, LABELS, NODES, EDGES }; /* of lists in the call */
+
+struct function {
+    const char *name;
+    uint64_t (*call)(const struct lent *);
+    bool graph; /* whether a stored graph is read */
+    enum numbers numbers;
+    enum entries entries;
+    int lists, outs;
+    enum answers answers;
+    enum second second;
+    size_t room;
+    unsigned codes; /* bit c: code c may be returned */
+};
+
+extern const struct function functions[FUNCTIONS];
+
+enum { READ = 0, REWRITE = 1, DELETE_NODES = 13, SPIDERIZE_NODES = 15, NO_LOOP = 17 };
+
+/* ---- record.c: a call as the bytes of a file ---- */
+
+struct call {
+    unsigned function;
+    uint8_t fit[LENGTHS]; /* how long the answer buffers and the work room are, beside what is called for */
+    uint8_t sides;        /* bit i: slice i of src, lists, answer buffers, room ends before a forbidden page, else it begins after one */
+    uint32_t number[2];
+    struct slice src, list[LISTS];
+};
+
+enum { RECORD_HEADER = 21, RECORD_MOST = RECORD_HEADER + SRC_MOST + LISTS * LIST_MOST };
+
+/* Any bytes are a call; the slices lie in them. */
+struct call decode(const uint8_t *bytes, size_t len);
+/* Returns the length, or 0 where it does not fit. */
+size_t encode(const struct call *c, uint8_t *bytes, size_t most);
+
+/* ---- random.c ---- */
+
+struct random {
+    uint64_t state;
+};
+
+uint64_t any(struct random *r);
+uint64_t below(struct random *r, uint64_t n); /* n is not 0 */
+bool one_in(struct random *r, uint64_t n);
+
+/* ---- desk.c: memory to lend, and one call with it ---- */
+
+/* Memory between two forbidden pages. It is mapped twice: the port sees `lent`, read-only where it is for inputs, and this program works in `own`. */
+struct arena {
+    uint8_t *lent, *own;
+    size_t size;
+};
+
+struct desk {
+    struct arena src, list[LISTS], out[OUTS], room;
+    struct random garbage;
+    uint8_t fill; /* what answer buffers held before the last call */
+    uint64_t calls, counts[FUNCTIONS][CODES];
+};
+
+void set_up_inputs(struct desk *d);
+void set_up_answers(struct desk *d, uint64_t seed);
+/* Lends the inputs of a call, copied into the desk's memory. */
+struct lent lend_inputs(struct desk *d, const struct call *c);
+void take_inputs_back(const struct lent *l);
+/* One call with answer buffers and work room of these lengths, and all that holds of it whatever it answers. */
+uint64_t call_once(struct desk *d, unsigned function, struct lent *l, const size_t length[LENGTHS], unsigned sides);
+/* The bytes of an answer buffer after a call. */
+const uint8_t *answered(const struct desk *d, const struct lent *l, int out);
+/* How many of them are the answer. */
+size_t written(const struct function *f, uint64_t returned, int out);
+
+/* ---- cases.c: calls that belong together ---- */
+
+/* What the first call of a case answered. */
+struct outcome {
+    uint64_t returned;
+    size_t len[OUTS];
+    uint8_t bytes[OUTS][OUT_MOST];
+};
+
+/* A call with long buffers, the same one with other buffers, and calls on what it answered. */
+void run_case(struct desk *d, const struct call *c, struct outcome *o);
+/* Lengths that are never too short. */
+void ample(const struct call *c, size_t length[LENGTHS]);
+/* A length that is 0, one short, exact, one more, the most, or any that is short. */
+size_t fitted(uint8_t fit, size_t exact, size_t most);
+
+/* ---- make.c: calls by chance ---- */
+
+struct maker;
+struct maker *new_maker(uint64_t seed);
+/* Makes middling and large graphs more often. */
+void make_more_large(struct maker *m);
+/* A call; its slices lie in the maker until the next one is made. */
+struct call make_call(struct maker *m);
+/* Keeps an answered form, to make further calls with. */
+void keep_answer(struct maker *m, const struct call *c, const struct outcome *o);
+/* Changes a call somewhat; its slices are moved into the maker. */
+struct call change_call(struct maker *m, const struct call *c);
+
+/* ---- threads.c ---- */
+
+/* A hundred threads call every function at once, with what `m` makes; their calls are added to those of `d`. */
+void run_threads(struct desk *d, struct maker *m);
+
+/* ---- report.c: failures and counts ---- */
+
+/* The case that runs in this thread. */
+extern _Thread_local const struct call *current;
+
+/* Called with what does not hold; does not return. */
+_Noreturn void fail(const char *function, const char *sentence);
+/* Makes a failure of every fault and of SIGALRM, and saves the case that failed under this name. */
+void watch(const char *path);
+/* Gives the calling thread a stack on which a fault can be told. */
+void stack_for_signals(void);
+void print_counts(uint64_t counts[FUNCTIONS][CODES]);
+
+#endif

@@ -1,0 +1,262 @@
+#include <stdlib.h>
+#include <string.h>
+
+#include "hostile.h"
+
+/* Forms that the port has answered, or that a corpus holds, by size: many small ones, since calls on them are quick. */
+enum { SHELVES = 3, SLOTS = 128 };
+
+static const size_t shelf_bytes[SHELVES] = {320, 2560, OHG_FORM_BYTES};
+static const size_t shelf_slots[SHELVES] = {SLOTS, 48, 16};
+
+struct shelf {
+    uint8_t *bytes;
+    size_t len[SLOTS], used;
+};
+
+struct maker {
+    struct random chance;
+    unsigned middle, large; /* how many in a thousand are to be so */
+    struct shelf shelves[SHELVES];
+    uint8_t src[SRC_MOST], other[OHG_FORM_BYTES], list[LISTS][LIST_MOST];
+};
+
+struct maker *new_maker(uint64_t seed) {
+    struct maker *m = calloc(1, sizeof *m);
+    if (!m) abort();
+    m->chance.state = seed;
+    m->middle = 100;
+    m->large = 10;
+    for (int i = 0; i < SHELVES; i++) {
+        m->shelves[i].bytes = malloc(shelf_slots[i] * shelf_bytes[i]);
+        if (!m->shelves[i].bytes) abort();
+    }
+    return m;
+}
+
+void make_more_large(struct maker *m) {
+    m->middle = 200;
+    m->large = 50;
+}
+
+static void keep_form(struct maker *m, const uint8_t *form, size_t len) {
+    int i = 0;
+    while (i < SHELVES && len > shelf_bytes[i]) i++;
+    if (i == SHELVES) return;
+    struct shelf *s = &m->shelves[i];
+    size_t slot = s->used < shelf_slots[i] ? s->used++ : below(&m->chance, shelf_slots[i]);
+    memcpy(s->bytes + slot * shelf_bytes[i], form, len);
+    s->len[slot] = len;
+}
+
+void keep_answer(struct maker *m, const struct call *c, const struct outcome *o) {
+    enum answers answers = functions[c->function].answers;
+    bool form = answers == FORM || answers == FORM_AND_MAP;
+    if (form && OHG_CODE(o->returned) == OHG_DONE) keep_form(m, o->bytes[0], o->len[0]);
+}
+
+/* Small mostly: calls on the largest take a thousand times as long. */
+static int size_class(struct maker *m) {
+    uint64_t n = below(&m->chance, 1000);
+    return n < m->large ? 2 : n < m->large + m->middle ? 1 : 0;
+}
+
+static size_t kept_form(struct maker *m, uint8_t *to) {
+    int i = size_class(m);
+    while (i > 0 && m->shelves[i].used == 0) i--;
+    struct shelf *s = &m->shelves[i];
+    if (!s->used) return 0;
+    size_t slot = below(&m->chance, s->used);
+    memcpy(to, s->bytes + slot * shelf_bytes[i], s->len[slot]);
+    return s->len[slot];
+}
+
+static uint8_t *put(uint8_t *at, uint32_t n, int bytes) {
+    for (; bytes--; n >>= 8) *at++ = n;
+    return at;
+}
+
+static uint32_t get2(const uint8_t *at) {
+    return at[0] | at[1] << 8;
+}
+
+/* Few different ones, so that equal labels occur; spiders among them. */
+static uint32_t a_label(struct random *r) {
+    uint64_t n = below(r, 16);
+    return n == 0 ? 0xFFFFFFFF : n == 1 ? any(r) : below(r, 4);
+}
+
+/* A count: mostly few, sometimes about the limit. */
+static uint32_t a_count(struct random *r, int size, uint32_t limit) {
+    if (size == 0) return below(r, 6 + limit / 512);
+    if (size == 1) return below(r, limit / 32);
+    if (one_in(r, 2)) return limit - below(r, 3);
+    return below(r, limit + 1);
+}
+
+static uint8_t *put_ids(struct random *r, uint8_t *at, uint32_t count, uint32_t nodes) {
+    while (count--) at = put(at, below(r, nodes), 2);
+    return at;
+}
+
+/* A stored form by chance, which is whole and within the limits. */
+static size_t drawn_form(struct random *r, int size, uint8_t *to) {
+    uint32_t nodes = a_count(r, size, 2048), edges = a_count(r, size, 2048), ports = a_count(r, size, 8192);
+    uint32_t count[3];
+    for (int i = 0; i < 3; i++) count[i] = nodes && one_in(r, 2) ? a_count(r, size, 1024) : 0;
+    if (nodes == 0 || edges == 0) ports = 0;
+    if (one_in(r, 2)) count[2] = 0;
+    uint8_t *at = put(put(put(to, 0x47484F, 3), 1, 2), nodes, 2);
+    at = put(at, edges, 2);
+    for (int i = 0; i < 3; i++) at = put(at, count[i], 2);
+    for (uint32_t i = 0; i < nodes + edges; i++) at = put(at, a_label(r), 4);
+    for (uint32_t left = edges; left > 0; left--) {
+        uint32_t share = left == 1 ? ports : below(r, 2 * (uint64_t)ports / left + 1);
+        uint32_t sources = below(r, share + 1);
+        at = put(put(at, sources, 2), share - sources, 2);
+        at = put_ids(r, at, share, nodes);
+        ports -= share;
+    }
+    return put_ids(r, at, count[0] + count[1] + 2 * count[2], nodes) - to;
+}
+
+/* Numbers at which a check could be one off. */
+static uint32_t a_border(struct random *r) {
+    static const uint32_t borders[] = {0, 1, 127, 128, 255, 256, 1024, 2048, 4096, 8192, 32767, 32768, 65535, 65536, 0x7FFFFFFF, 0xFFFFFFFF};
+    return borders[below(r, sizeof borders / sizeof *borders)] + (uint32_t)below(r, 3) - 1;
+}
+
+/* An id: mostly one below the count. */
+static uint32_t an_id(struct random *r, uint32_t count) {
+    uint64_t n = below(r, 64);
+    if (n == 0) return a_border(r);
+    if (n == 1) return count;
+    if (n == 2) return any(r);
+    uint32_t id = count ? below(r, count) : 0;
+    return n == 3 ? id | 0x10000 : id;
+}
+
+static size_t most_of(size_t len, size_t most) {
+    return len < most ? len : most;
+}
+
+/* Moves the bytes from `at` on by `by` and gives the new length; what passes `most` is lost. */
+static size_t make_gap(uint8_t *bytes, size_t len, size_t at, size_t by, size_t most) {
+    by = most_of(by, most - at);
+    size_t stay = most_of(len - at, most - at - by);
+    memmove(bytes + at + by, bytes + at, stay);
+    return at + by + stay;
+}
+
+/* One change of some bytes; returns the new length. */
+static size_t change(struct random *r, uint8_t *bytes, size_t len, size_t most) {
+    if (len == 0) {
+        bytes[0] = any(r);
+        return 1;
+    }
+    size_t at = below(r, len), run = 1 + below(r, one_in(r, 4) ? len - at : most_of(len - at, 8)), from = below(r, len);
+    switch (below(r, 11)) {
+    case 0: bytes[at] ^= 1 << below(r, 8); return len;
+    case 1: bytes[at] = any(r); return len;
+    case 2: bytes[at] += one_in(r, 2) ? 1 : -1; return len;
+    case 3: if (at + 2 <= len) put(bytes + at, a_border(r), 2); return len;
+    case 4: if (len >= 15) put(bytes + 3 + 2 * below(r, 6), one_in(r, 2) ? a_border(r) : below(r, 16), 2); return len;
+    case 5: if (len >= 15) bytes[5 + 2 * below(r, 5)] += one_in(r, 2) ? 1 : -1; return len;
+    case 6: return one_in(r, 2) ? at : len - 1;
+    case 7: memmove(bytes + at, bytes + at + run, len - at - run); return len - run;
+    case 8: memmove(bytes + at, bytes + from, most_of(run, len - from)); return len;
+    case 9:
+        len = make_gap(bytes, len, at, run, most);
+        for (size_t i = 0; i < run && at + i < len; i++) bytes[at + i] = any(r);
+        return len;
+    default:
+        for (size_t i = 0; len < most && i < run; i++) bytes[len++] = any(r);
+        return len;
+    }
+}
+
+static size_t noise(struct random *r, uint8_t *to, size_t len) {
+    for (size_t i = 0; i < len; i++) to[i] = any(r);
+    return len;
+}
+
+static size_t make_src(struct maker *m) {
+    struct random *r = &m->chance;
+    uint64_t kind = below(r, 100);
+    size_t len;
+    if (kind < 50) {
+        len = kept_form(m, m->src);
+    } else if (kind < 88) {
+        len = drawn_form(r, size_class(m), m->src);
+    } else if (kind < 94) { /* the beginning of one form and the end of another */
+        size_t head = below(r, kept_form(m, m->src) + 1), other = kept_form(m, m->other);
+        size_t tail = most_of(below(r, other + 1), SRC_MOST - head);
+        memcpy(m->src + head, m->other + other - tail, tail);
+        len = head + tail;
+    } else if (kind < 96) { /* bytes after a good beginning */
+        size_t head = most_of(kept_form(m, m->src), 15 + below(r, 32));
+        len = head + noise(r, m->src + head, below(r, 64));
+    } else {
+        len = noise(r, m->src, below(r, one_in(r, 50) ? SRC_MOST : 64));
+    }
+    if (one_in(r, 3))
+        for (uint64_t n = 1 + below(r, 3); n > 0; n--) len = change(r, m->src, len, SRC_MOST);
+    return len;
+}
+
+static size_t make_list(struct maker *m, uint8_t *to, enum entries entries, const uint32_t counts[2]) {
+    struct random *r = &m->chance;
+    uint64_t kind = below(r, 2000);
+    size_t n = kind < 1900 ? below(r, 6) : kind < 1990 ? below(r, 100) : kind < 1998 ? below(r, 2100) : below(r, LIST_MOST / 4);
+    uint8_t *at = to;
+    for (size_t i = 0; i < n; i++) at = entries == LABELS ? put(at, a_label(r), 4) : put(at, an_id(r, counts[entries == EDGES]), 2);
+    size_t len = at - to;
+    if (one_in(r, 24)) len += noise(r, at, below(r, 4));
+    return most_of(len, LIST_MOST);
+}
+
+static void make_numbers(struct random *r, struct call *c, const uint32_t counts[2]) {
+    switch (functions[c->function].numbers) {
+    case NO_NUMBER: break;
+    case LABEL: c->number[0] = one_in(r, 8) ? a_border(r) : a_label(r); break;
+    case TWO_NODES: for (int i = 0; i < 2; i++) c->number[i] = an_id(r, counts[0]); break;
+    case EDGE_AND_LABEL: c->number[0] = an_id(r, counts[1]); c->number[1] = a_label(r); break;
+    }
+}
+
+struct call make_call(struct maker *m) {
+    struct random *r = &m->chance;
+    struct call c = {.function = below(r, FUNCTIONS), .sides = any(r), .src = {m->src, 0}};
+    const struct function *f = &functions[c.function];
+    for (int i = 0; i < LENGTHS; i++) c.fit[i] = one_in(r, 3) ? any(r) : 2;
+    if (f->graph) c.src.len = make_src(m);
+    uint32_t counts[2] = {0, 0};
+    if (c.src.len >= 15) {
+        counts[0] = get2(m->src + 5);
+        counts[1] = get2(m->src + 7);
+    }
+    make_numbers(r, &c, counts);
+    for (int i = 0; i < LISTS; i++) c.list[i] = (struct slice){m->list[i], i < f->lists ? make_list(m, m->list[i], f->entries, counts) : 0};
+    return c;
+}
+
+struct call change_call(struct maker *m, const struct call *old) {
+    struct random *r = &m->chance;
+    struct call c = *old;
+    memcpy(m->src, old->src.at, old->src.len);
+    c.src.at = m->src;
+    for (int i = 0; i < LISTS; i++) {
+        memcpy(m->list[i], old->list[i].at, old->list[i].len);
+        c.list[i].at = m->list[i];
+    }
+    uint64_t kind = below(r, 16);
+    if (kind == 0) c.function = below(r, FUNCTIONS);
+    else if (kind == 1) c.fit[below(r, LENGTHS)] = any(r);
+    else if (kind == 2) c.sides = any(r);
+    else if (kind == 3) c.number[below(r, 2)] = one_in(r, 2) ? a_border(r) : below(r, 16);
+    else if (kind < 7) {
+        struct slice *list = &c.list[below(r, LISTS)];
+        list->len = change(r, list->at, list->len, LIST_MOST);
+    } else c.src.len = change(r, m->src, c.src.len, SRC_MOST);
+    return c;
+}
