@@ -22,7 +22,7 @@ use Rattle.removal.specs.Engine.{Kept, live, actives, picks, State, Peeled}
 use Rattle.choice.proofs.Core.{peels-taken}
 use Rattle.choice.proofs.Fits.{proper-offers}
 use Rattle.choice.proofs.Graphs.{chosen-and-free-are-all}
-use Rattle.choice.proofs.Invariant.{Told, told-start, told-loose, told-best, told-done}
+use Rattle.choice.proofs.Told.{Told, told-start, told-loose, told-best, told-done}
 use Rattle.choice.proofs.Sets.{size-empty, size-some, size-vertices, size-without}
 use Rattle.choice.proofs.Stages.{Offers}
 use Rattle.incidence.proofs.Listing.{few-edges}

@@ -46,7 +46,7 @@ fn start(room: &mut [u8], src: &[u8], nodes: usize, edges: usize, selectable: us
     incidence::put_same(room, removal::ACTIVE, n, 1);
     let p = removal::seed(room, n, selectable);
     Entries {
-        ports: ports,
+        ports,
         waiting: p.waiting,
         candidates: p.candidates,
     }
@@ -180,8 +180,8 @@ fn greedy_feedback_nodes(room: &mut [u8], g: Shape, p: Pending) -> Choice
             room,
             g,
             Pending {
-                waiting: waiting,
-                candidates: candidates,
+                waiting,
+                candidates,
             },
         );
         free = free + freed.removed;
@@ -195,10 +195,7 @@ fn greedy_feedback_nodes(room: &mut [u8], g: Shape, p: Pending) -> Choice
         left = left - 1;
         ids = ids + 1;
     }
-    Choice {
-        ids: ids,
-        free: free,
-    }
+    Choice { ids, free }
 }
 
 // The choice of a stored drawing: its nodes flagged in the room, how many there are, and how many vertices went freely.

@@ -29,14 +29,6 @@ pub const ROOM_DELETE_NODES: usize = 2048;
 // In the map: a node that went.
 const NOWHERE: u32 = 65535;
 
-// The count or id at a place.
-fn id_at(s: &[u8], at: usize) -> usize
-    requires { ⌜ at + 2 ≤ length (now s) ⌝ }
-    ensures { λ r. ⌜ (r ≡ numberAt 2 (now (s .entry)) at) × (r < 65536) ⌝ }
-{
-    le::get2(s, at) as usize
-}
-
 // Takes the marks of the first n ids away.
 fn clear(room: &mut [u8], n: usize)
     requires { ⌜ n ≤ length (now room) ⌝ }
@@ -54,7 +46,7 @@ fn mark(room: &mut [u8], count: usize, ids: &[u8], n: usize)
 {
     clear(room, count);
     for k in 0..n {
-        let id = id_at(ids, k * 2);
+        let id = form::count_at(ids, k * form::WIDTH);
         room[id] = 1;
     }
 }
@@ -65,14 +57,6 @@ fn if_stays(room: &[u8], id: usize, x: usize) -> usize
     ensures { λ r. ⌜ r ≡ cond (marked (now (room .entry)) id) 0 x ⌝ }
 {
     if room[id] == 0 { x } else { 0 }
-}
-
-// How many ports the edge at a place has.
-fn ports_at(src: &[u8], at: usize) -> usize
-    requires { ⌜ at + 4 ≤ length (now src) ⌝ }
-    ensures { λ r. ⌜ (r ≡ numberAt 2 (now (src .entry)) at + numberAt 2 (now (src .entry)) (at + 2)) × (r < 131072) ⌝ }
-{
-    id_at(src, at) + id_at(src, at + 2)
 }
 
 // Edges that are left, and their ports.
@@ -90,10 +74,10 @@ fn edges_left(src: &[u8], start: usize, n: usize, room: &[u8]) -> Left
     let mut edges: usize = 0;
     let mut ports: usize = 0;
     for i in 0..n {
-        let here = ports_at(src, at);
+        let here = form::ports_at(src, at);
         edges = edges + if_stays(room, i, 1);
         ports = ports + if_stays(room, i, here);
-        at = at + (4 + here * 2);
+        at = at + (4 + here * form::WIDTH);
     }
     Left { edges, ports }
 }
@@ -181,7 +165,7 @@ fn put_left_edges(
     let mut at = start;
     let mut to = first;
     for i in 0..n {
-        let bytes = 4 + ports_at(src, at) * 2;
+        let bytes = 4 + form::ports_at(src, at) * form::WIDTH;
         to = put_left_edge(src, at, bytes, room, i, out, to);
         at = at + bytes;
     }
@@ -218,7 +202,7 @@ fn put_without_edges(src: &[u8], z: form::Sizes, y: form::Sizes, room: &[u8], ou
         lists,
         src,
         at,
-        (z.sources + (z.targets + 2 * z.pairs)) * 2,
+        (z.sources + (z.targets + 2 * z.pairs)) * form::WIDTH,
     );
 }
 
@@ -255,7 +239,7 @@ fn ids_left(src: &[u8], at: usize, n: usize, room: &[u8]) -> usize
 {
     let mut left: usize = 0;
     for k in 0..n {
-        let id = id_at(src, at + k * 2);
+        let id = form::count_at(src, at + k * form::WIDTH);
         left = left + if_stays(room, id, 1);
     }
     left
@@ -269,9 +253,9 @@ fn ports_left(src: &[u8], start: usize, n: usize, room: &[u8]) -> usize
     let mut at = start;
     let mut ports: usize = 0;
     for i in 0..n {
-        let here = ports_at(src, at);
+        let here = form::ports_at(src, at);
         ports = ports + ids_left(src, at + 4, here, room);
-        at = at + (4 + here * 2);
+        at = at + (4 + here * form::WIDTH);
     }
     ports
 }
@@ -281,8 +265,8 @@ fn pair_left(src: &[u8], at: usize, room: &[u8]) -> usize
     requires { ⌜ (at + 4 ≤ length (now src)) × (numberAt 2 (now src) at < length (now room)) × (numberAt 2 (now src) (at + 2) < length (now room)) ⌝ }
     ensures { λ r. ⌜ r ≡ length (stayingPairs (marked (now (room .entry))) ((numberAt 2 (now (src .entry)) at, numberAt 2 (now (src .entry)) (at + 2)) ∷ [])) ⌝ }
 {
-    let a = id_at(src, at);
-    let b = id_at(src, at + 2);
+    let a = form::count_at(src, at);
+    let b = form::count_at(src, at + form::WIDTH);
     if room[a] != 0 {
         return 0;
     }
@@ -320,8 +304,8 @@ fn without_nodes(src: &[u8], z: form::Sizes, room: &[u8]) -> form::Sizes
 {
     let edges = form::edges_at(z.nodes, z.edges);
     let sources = form::lists_at(z.nodes, z.edges, z.ports);
-    let targets = sources + z.sources * 2;
-    let pairs = sources + (z.sources + z.targets) * 2;
+    let targets = sources + z.sources * form::WIDTH;
+    let pairs = sources + (z.sources + z.targets) * form::WIDTH;
     form::Sizes {
         nodes: nodes_left(room, z.nodes),
         edges: z.edges,
@@ -338,10 +322,10 @@ fn put_place(room: &[u8], id: usize, map: &mut [u8], next: usize) -> usize
     ensures { λ r. ⌜ (now (map .exit) ≡ sets (now (map .entry)) (id * 2) (bytes 2 (cond (marked (now (room .entry)) id) 65535 next))) × (r ≡ next + cond (marked (now (room .entry)) id) 0 1) ⌝ }
 {
     if room[id] != 0 {
-        le::put2(map, id * 2, NOWHERE);
+        le::put2(map, id * form::WIDTH, NOWHERE);
         return next;
     }
-    le::put2(map, id * 2, next as u32);
+    le::put2(map, id * form::WIDTH, next as u32);
     next + 1
 }
 
@@ -361,12 +345,12 @@ fn put_moved(map: &[u8], id: usize, out: &mut [u8], to: usize) -> usize
     requires { ⌜ (id < length (now map) / 2) × (to + length (row 2 (moved (now map) (id ∷ []))) ≤ length (now out)) ⌝ }
     ensures { λ r. ⌜ Put (now (out .entry)) to (row 2 (moved (now (map .entry)) (id ∷ []))) (now (out .exit)) r ⌝ }
 {
-    let v = le::get2(map, id * 2);
+    let v = le::get2(map, id * form::WIDTH);
     if v == NOWHERE {
         return to;
     }
     le::put2(out, to, v);
-    to + 2
+    to + form::WIDTH
 }
 
 // The new ids of n nodes whose ids stand from a place on, of those that stay.
@@ -376,7 +360,7 @@ fn put_moved_ids(src: &[u8], at: usize, n: usize, map: &[u8], out: &mut [u8], fi
 {
     let mut to = first;
     for k in 0..n {
-        let id = id_at(src, at + k * 2);
+        let id = form::count_at(src, at + k * form::WIDTH);
         to = put_moved(map, id, out, to);
     }
     to
@@ -387,11 +371,23 @@ fn put_moved_edge(src: &[u8], at: usize, map: &[u8], out: &mut [u8], to: usize) 
     requires { ⌜ (at + 4 + (numberAt 2 (now src) at + numberAt 2 (now src) (at + 2)) * 2 ≤ length (now src)) × Below (length (now map) / 2) (edgeAt (now src) at .sources) × Below (length (now map) / 2) (edgeAt (now src) at .targets) × (to + length (edgeBytes form1 (movedEdge (now map) (edgeAt (now src) at))) ≤ length (now out)) ⌝ }
     ensures { λ r. ⌜ Put (now (out .entry)) to (edgeBytes form1 (movedEdge (now (map .entry)) (edgeAt (now (src .entry)) at))) (now (out .exit)) r ⌝ }
 {
-    let sources = id_at(src, at);
-    let targets = id_at(src, at + 2);
+    let sources = form::count_at(src, at);
+    let targets = form::count_at(src, at + form::WIDTH);
     let middle = put_moved_ids(src, at + 4, sources, map, out, to + 4);
-    let end = put_moved_ids(src, at + 4 + sources * 2, targets, map, out, middle);
-    form::put_two(out, to, (middle - (to + 4)) / 2, (end - middle) / 2);
+    let end = put_moved_ids(
+        src,
+        at + 4 + sources * form::WIDTH,
+        targets,
+        map,
+        out,
+        middle,
+    );
+    form::put_two(
+        out,
+        to,
+        (middle - (to + 4)) / form::WIDTH,
+        (end - middle) / form::WIDTH,
+    );
     end
 }
 
@@ -410,9 +406,9 @@ fn put_moved_edges(
     let mut at = start;
     let mut to = first;
     for i in 0..n {
-        let here = ports_at(src, at);
+        let here = form::ports_at(src, at);
         to = put_moved_edge(src, at, map, out, to);
-        at = at + (4 + here * 2);
+        at = at + (4 + here * form::WIDTH);
     }
     to
 }
@@ -422,8 +418,8 @@ fn put_moved_pair(src: &[u8], at: usize, map: &[u8], out: &mut [u8], to: usize) 
     requires { ⌜ (at + 4 ≤ length (now src)) × (numberAt 2 (now src) at < length (now map) / 2) × (numberAt 2 (now src) (at + 2) < length (now map) / 2) × (to + length (row 2 (flat (movedPairs (now map) ((numberAt 2 (now src) at, numberAt 2 (now src) (at + 2)) ∷ [])))) ≤ length (now out)) ⌝ }
     ensures { λ r. ⌜ Put (now (out .entry)) to (row 2 (flat (movedPairs (now (map .entry)) ((numberAt 2 (now (src .entry)) at, numberAt 2 (now (src .entry)) (at + 2)) ∷ [])))) (now (out .exit)) r ⌝ }
 {
-    let v = id_at(map, id_at(src, at) * 2);
-    let w = id_at(map, id_at(src, at + 2) * 2);
+    let v = form::count_at(map, form::count_at(src, at) * form::WIDTH);
+    let w = form::count_at(map, form::count_at(src, at + form::WIDTH) * form::WIDTH);
     if v == NOWHERE as usize {
         return to;
     }
@@ -488,7 +484,7 @@ fn put_without_nodes(
     let ids = z.sources + z.targets;
     let sources = put_moved_edges(src, edges, z.edges, map, out, labels + z.edges * 4);
     let pairs = put_moved_ids(src, lists, ids, map, out, sources);
-    put_moved_pairs(src, lists + ids * 2, z.pairs, map, out, pairs);
+    put_moved_pairs(src, lists + ids * form::WIDTH, z.pairs, map, out, pairs);
 }
 
 // What deleting nodes answers: the bytes of the graph, and the entries of the map.
@@ -526,7 +522,7 @@ pub fn delete_nodes(
     let form::Fit::Bytes(bytes) = size else {
         return Deleting::Refused(size.refusal());
     };
-    if map.len() < z.nodes * 2 {
+    if map.len() < z.nodes * form::WIDTH {
         return Deleting::Refused(form::Refusal { no: 10 });
     }
     put_map(room, z.nodes, map);

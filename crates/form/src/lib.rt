@@ -71,8 +71,8 @@ fn marked(s: &[u8]) -> bool
     s[2] == 71
 }
 
-// The count at a place.
-fn count_at(s: &[u8], at: usize) -> usize
+// The count or id at a place.
+pub fn count_at(s: &[u8], at: usize) -> usize
     requires { ⌜ at + 2 ≤ length (now s) ⌝ }
     ensures { λ r. ⌜ (r ≡ numberAt 2 (now (s .entry)) at) × (r < 65536) ⌝ }
 {
@@ -165,7 +165,7 @@ impl Step {
 }
 
 // How many entries the edge at a place has: its source count and its target count, read as one number.
-fn ports_at(s: &[u8], at: usize) -> usize
+pub fn ports_at(s: &[u8], at: usize) -> usize
     requires { ⌜ at + 4 ≤ length (now s) ⌝ }
     ensures { λ r. ⌜ (r ≡ numberAt 2 (now (s .entry)) at + numberAt 2 (now (s .entry)) (at + 2)) × (r < 131072) ⌝ }
 {

@@ -4,7 +4,7 @@ ghost use mathlib.Core.Path.{_≡_};
 ghost use Prim.Native.Nat.{ℕ, _+_, _*_, _<_, _≤_};
 ghost use lib.ListN.{length, getD, set, drop, replicate};
 ghost use lib.Seq.{sets};
-ghost use Rattle.le.specs.Le.{words, numbers, numberAt};
+ghost use Rattle.le.specs.Le.{words, numbers};
 ghost use Rattle.incidence.specs.Listed.{Drawn, Appended, AllListed, Low, Counts, LaidOut, Empties, Filled, Grouped, Built};
 
 // Where the tables stand, in words.
@@ -73,14 +73,6 @@ fn put_edge(
     );
 }
 
-// A count of an edge.
-fn count_at(src: &[u8], at: usize) -> usize
-    requires { ⌜ at + 2 ≤ length (now src) ⌝ }
-    ensures { λ r. ⌜ r ≡ numberAt 2 (now (src .entry)) at ⌝ }
-{
-    le::get2(src, at) as usize
-}
-
 // The arcs of all edges, and how many there are.
 fn list_arcs(room: &mut [u8], src: &[u8], nodes: usize, edges: usize) -> usize
     requires { ⌜ (65536 ≤ length (now room)) ⌝ }
@@ -90,8 +82,8 @@ fn list_arcs(room: &mut [u8], src: &[u8], nodes: usize, edges: usize) -> usize
     let mut at = graph::HEADER_BYTES + (nodes + edges) * 4;
     let mut k: usize = 0;
     for e in 0..edges {
-        let sources = count_at(src, at);
-        let targets = count_at(src, at + form::WIDTH);
+        let sources = form::count_at(src, at);
+        let targets = form::count_at(src, at + form::WIDTH);
         let entries = at + 2 * form::WIDTH;
         put_edge(room, src, entries, k, nodes + e, sources, targets);
         at = entries + (sources + targets) * form::WIDTH;

@@ -26,9 +26,6 @@ pub length-cells : (s : List ℕ) → length (cells s) ≡ length s / 2
 unfolding cells
 length-cells s = length-numbers 2 (length s / 2) s
 
-pub cells-same : (s t : List ℕ) → length t ≡ length s → length (cells t) ≡ length (cells s)
-cells-same s t e = omega (arith, length-cells s, length-cells t)
-
 pub getD-cells : (s : List ℕ) (i : ℕ) → i < length s / 2 → getD (cells s) i 0 ≡ numberAt 2 s (i * 2)
 unfolding cells
 getD-cells s i h = getD-numbers 2 (length s / 2) s i h

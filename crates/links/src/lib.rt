@@ -83,7 +83,7 @@ pub fn list_ids(room: &mut [u8], ids: &[u8], n: usize, nodes: usize)
     ensures { λ _. ⌜ (Heads nodes (cells (now (room .entry))) (λ x. false) → Heads nodes (cells (now (room .exit))) (among (numbers 2 n (now (ids .entry))))) ⌝ }
 {
     for j in 0..n {
-        let id = le::get2(ids, j * 2) as usize;
+        let id = le::get2(ids, j * form::WIDTH) as usize;
         list_one(room, id);
     }
 }

@@ -1,7 +1,6 @@
 -- The order of candidates: reflexive, total, transitive, and what the test of the code says of it.
 -- Assumes nothing.
 use mathlib.Core.Bool.{Bool, true, false}
-use mathlib.Core.Logic.{_⊎_, inl, inr}
 use mathlib.Core.Path.{_≡_, refl, sym}
 use Prim.Native.Nat.{_<_, _≤_}
 use native.Mathlib.Omega.{arith}
@@ -10,15 +9,6 @@ use borrow.Author.Tests.{ltb-true, ltb-false, eqb-true, eqb-false}
 use Rattle.queue.specs.Queue.{Before, higher, tied}
 use Rattle.queue.specs.Sift.{ahead}
 use Rattle.queue.specs.declared.Candidate.{Candidate}
-
--- what the order says of scores and of ids
-pub before-score : {a b : Candidate} → Before a b → b .score ≤ a .score
-before-score (higher s) = omega arith
-before-score (tied s i) = omega arith
-
-pub before-id : {a b : Candidate} → Before a b → a .score ≡ b .score → a .id ≤ b .id
-before-id (higher s) e = absurd (omega arith)
-before-id (tied s i) e = i
 
 pub before-refl : {a : Candidate} → Before a a
 before-refl = tied refl (omega arith)
@@ -50,13 +40,6 @@ ahead-false {a} {b} h = go (eqb (a .score) (b .score)) refl
         let l : a .score ≤ b .score = ltb-false _ _ (rw e at h) in
         let d : a .score ≡ b .score → ⊥ = eqb-false _ _ e in
         higher (omega arith)
-
-pub before-total : (a b : Candidate) → Before a b ⊎ Before b a
-before-total a b = go (ahead a b) refl
-  where
-    go : (t : Bool) → ahead a b ≡ t → Before a b ⊎ Before b a
-    go true e = inl (ahead-true e)
-    go false e = inr (ahead-false e)
 
 -- the same of an answer that the code was given, where it asked of entries that are known
 pub told-ahead : {r : Bool} {a b a′ b′ : Candidate} → r ≡ ahead a b → a ≡ a′ → b ≡ b′ → r ≡ true → Before a′ b′

@@ -36,10 +36,10 @@ fn candidate_at(room: &[u8], base: usize, i: usize) -> Candidate
     let indegree = le::word(room, x + 2);
     let outdegree = le::word(room, x + 3);
     Candidate {
-        score: score,
-        id: id,
-        indegree: indegree,
-        outdegree: outdegree,
+        score,
+        id,
+        indegree,
+        outdegree,
     }
 }
 

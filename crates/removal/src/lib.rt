@@ -83,8 +83,8 @@ fn push_candidate(room: &mut [u8], v: usize, selectable: usize, candidates: usiz
     let c = queue::Candidate {
         score: indegree * outdegree,
         id: v as u32,
-        indegree: indegree,
-        outdegree: outdegree,
+        indegree,
+        outdegree,
     };
     queue::push(room, CANDIDATES, candidates, c);
     candidates + 1
@@ -100,8 +100,8 @@ fn offer(room: &mut [u8], v: usize, selectable: usize, p: Pending) -> Pending
     let waiting = wait(room, v, p.waiting);
     let candidates = push_candidate(room, v, selectable, p.candidates);
     Pending {
-        waiting: waiting,
-        candidates: candidates,
+        waiting,
+        candidates,
     }
 }
 
@@ -119,16 +119,16 @@ pub fn seed(room: &mut [u8], n: usize, selectable: usize) -> Pending
             v,
             selectable,
             Pending {
-                waiting: waiting,
-                candidates: candidates,
+                waiting,
+                candidates,
             },
         );
         waiting = p.waiting;
         candidates = p.candidates;
     }
     Pending {
-        waiting: waiting,
-        candidates: candidates,
+        waiting,
+        candidates,
     }
 }
 
@@ -173,16 +173,16 @@ fn lower_all(
             x,
             g,
             Pending {
-                waiting: waiting,
-                candidates: candidates,
+                waiting,
+                candidates,
             },
         );
         waiting = q.waiting;
         candidates = q.candidates;
     }
     Pending {
-        waiting: waiting,
-        candidates: candidates,
+        waiting,
+        candidates,
     }
 }
 
@@ -217,15 +217,15 @@ fn peel_one(room: &mut [u8], g: Shape, p: Pending) -> Step
     let v = le::word(room, WAITING + waiting) as usize;
     if !is_active(room, v) {
         return Step {
-            waiting: waiting,
-            candidates: candidates,
+            waiting,
+            candidates,
             removed: 0,
         };
     }
     if !is_loose(room, v) {
         return Step {
-            waiting: waiting,
-            candidates: candidates,
+            waiting,
+            candidates,
             removed: 0,
         };
     }
@@ -234,8 +234,8 @@ fn peel_one(room: &mut [u8], g: Shape, p: Pending) -> Step
         v,
         g,
         Pending {
-            waiting: waiting,
-            candidates: candidates,
+            waiting,
+            candidates,
         },
     );
     Step {
@@ -266,8 +266,8 @@ pub fn peel(room: &mut [u8], g: Shape, p: Pending) -> Freed
             room,
             g,
             Pending {
-                waiting: waiting,
-                candidates: candidates,
+                waiting,
+                candidates,
             },
         );
         waiting = s.waiting;
@@ -275,7 +275,7 @@ pub fn peel(room: &mut [u8], g: Shape, p: Pending) -> Freed
         removed = removed + s.removed;
     }
     Freed {
-        removed: removed,
-        candidates: candidates,
+        removed,
+        candidates,
     }
 }

@@ -55,10 +55,6 @@ module _ {b : List ℕ} {z : Sizes} (w : Whole b z) (W : List ℕ) where
         ap length (keep-append m (edgeEntries (g .edges)) (g .sources ++ g .targets)) ∙ length-append (keep m (edgeEntries (g .edges))) (keep m (g .sources ++ g .targets)),
       )
 
-  -- the sizes of the result
-  abbrev pub resultSizes : ℕ → ℕ → Sizes
-  resultSizes fresh spiders = record { nodes = z .nodes + fresh; edges = z .edges + spiders; ports = z .ports + (spiders + fresh); sources = z .sources; targets = z .targets; pairs = z .pairs }
-
   module _ (fresh spiders : ℕ) (is-fresh : fresh ≡ length (keep (marked (z .nodes) W) (entries (graphOf b)))) (is-spiders : spiders ≡ 2 * length (keep (marked (z .nodes) W) (range 0 (z .nodes)))) (room : ℕ) where
     same-sizes : sizesOf (spidered b z W) ≡ record { nodes = z .nodes + fresh; edges = z .edges + spiders; ports = z .ports + (spiders + fresh); sources = z .sources; targets = z .targets; pairs = z .pairs }
     same-sizes = sizes-are w W fresh spiders is-fresh is-spiders

@@ -45,16 +45,6 @@ fn count_list(src: &[u8], at: usize, n: usize, nodes: usize, room: &[u8]) -> usi
     count
 }
 
-// How many entries the edge at a place has.
-fn ports_at(src: &[u8], at: usize) -> usize
-    requires { ⌜ at + 4 ≤ length (now src) ⌝ }
-    ensures { λ r. ⌜ (r ≡ portsAt (now (src .entry)) at) × (r < 131072) ⌝ }
-{
-    let sources = le::get2(src, at) as usize;
-    let targets = le::get2(src, at + form::WIDTH) as usize;
-    sources + targets
-}
-
 // How many entries of the edges are of listed nodes.
 fn count_edges(src: &[u8], z: Sizes, room: &[u8]) -> usize
     requires { ⌜ Whole (now src) z × (z .nodes * 8 ≤ length (now room)) ⌝ }
@@ -63,7 +53,7 @@ fn count_edges(src: &[u8], z: Sizes, room: &[u8]) -> usize
     let mut at = form::edges_at(z.nodes, z.edges);
     let mut count: usize = 0;
     for i in 0..z.edges {
-        let n = ports_at(src, at);
+        let n = form::ports_at(src, at);
         count = count + count_list(src, at + 4, n, z.nodes, room);
         at = at + 4 + n * form::WIDTH;
     }
@@ -117,7 +107,7 @@ fn fresh_labels_of_edges(src: &[u8], z: Sizes, room: &[u8], out: &mut [u8], star
     let mut at = form::edges_at(z.nodes, z.edges);
     let mut to = start;
     for i in 0..z.edges {
-        let n = ports_at(src, at);
+        let n = form::ports_at(src, at);
         to = fresh_labels(src, at + 4, n, z.nodes, room, out, to);
         at = at + 4 + n * form::WIDTH;
     }
@@ -243,7 +233,7 @@ fn rewrite_edges(src: &[u8], z: Sizes, room: &mut [u8], out: &mut [u8], start: u
     let mut to = start;
     let mut next = z.nodes;
     for i in 0..z.edges {
-        let n = ports_at(src, at);
+        let n = form::ports_at(src, at);
         next = rewrite_edge(src, at, z.nodes, next, room, out, to);
         let step = 4 + n * form::WIDTH;
         at = at + step;

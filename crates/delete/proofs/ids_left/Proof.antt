@@ -24,22 +24,22 @@ abbrev μ-loop : tie.MeasureT-loop
 μ-loop src at n room left₀ k₀ left k = n - k
 
 -- the id that was read is the list's
-read : (c : tie.After-id-at Inv-loop μ-loop) → c .id-at .result ≡ getD (numbers 2 (c .before .before .before .before .before .args .n) (drop (c .before .before .before .before .before .args .at) (now (c .before .before .before .before .before .args .src)))) (c .before .before .loop .k) 0
+read : (c : tie.After-count-at Inv-loop μ-loop) → c .count-at .result ≡ getD (numbers 2 (c .before .before .before .before .before .args .n) (drop (c .before .before .before .before .before .args .at) (now (c .before .before .before .before .before .args .src)))) (c .before .before .loop .k) 0
 read c =
     let a = c .before .before .before .before .before .args in
-    c .id-at .ensures .0 ∙ sym (number-there 2 (a .n) (now (a .src)) (a .at) (c .before .before .loop .k) (omega arith))
+    c .count-at .ensures .0 ∙ sym (number-there 2 (a .n) (now (a .src)) (a .at) (c .before .before .loop .k) (omega arith))
 
 loop-holds : tie.Need-loop-holds Inv-loop μ-loop
 loop-holds c = (omega arith, omega arith, refl)
 
-mul-id-at : tie.Need-mul-id-at Inv-loop μ-loop
-mul-id-at c = omega arith
+mul-count-at : tie.Need-mul-count-at Inv-loop μ-loop
+mul-count-at c = omega arith
 
-add-id-at : tie.Need-add-id-at Inv-loop μ-loop
-add-id-at c = omega arith
+add-count-at : tie.Need-add-count-at Inv-loop μ-loop
+add-count-at c = omega arith
 
-id-at-requires : tie.Need-id-at-requires Inv-loop μ-loop
-id-at-requires c κs = omega arith
+count-at-requires : tie.Need-count-at-requires Inv-loop μ-loop
+count-at-requires c κs = omega arith
 
 if-stays-requires : tie.Need-if-stays-requires Inv-loop μ-loop
 if-stays-requires c κs =
@@ -48,7 +48,7 @@ if-stays-requires c κs =
     omega (arith, read c, below-at (length (now (s .args .room))) xs (c .before .before .loop .k) (s .pre .1) (omega (arith, length-numbers 2 (s .args .n) (drop (s .args .at) (now (s .args .src))))))
 
 add-left : tie.Need-add-left Inv-loop μ-loop
-add-left c = omega (arith, unless-le (c .if-stays .result) (marked (now (c .before .before .before .before .before .before .args .room)) (c .before .id-at .result)) 1 (c .if-stays .ensures))
+add-left c = omega (arith, unless-le (c .if-stays .result) (marked (now (c .before .before .before .before .before .before .args .room)) (c .before .count-at .result)) 1 (c .if-stays .ensures))
 
 add-k : tie.Need-add-k Inv-loop μ-loop
 add-k c = omega arith
@@ -62,9 +62,9 @@ loop-again c =
     let l = c .before .before .before .loop in
     let goes = marked (now (a .room)) in
     let xs = numbers 2 (a .n) (drop (a .at) (now (a .src))) in
-    let one = c .if-stays .ensures ∙ one-stays goes (c .before .id-at .result) ∙ ap (λ (i : ℕ). length (staying goes (i ∷ []))) (read (c .before)) in (
+    let one = c .if-stays .ensures ∙ one-stays goes (c .before .count-at .result) ∙ ap (λ (i : ℕ). length (staying goes (i ∷ []))) (read (c .before)) in (
       omega arith,
-      omega (arith, unless-le (c .if-stays .result) (goes (c .before .id-at .result)) 1 (c .if-stays .ensures)),
+      omega (arith, unless-le (c .if-stays .result) (goes (c .before .count-at .result)) 1 (c .if-stays .ensures)),
       omega (arith, l .inv .2, one, next-length (staying goes) (staying-additive goes) xs (l .k) 0 (omega (arith, length-numbers 2 (a .n) (drop (a .at) (now (a .src)))))),
     )
 
@@ -82,9 +82,9 @@ ids-left-spec =
     Inv-loop
     μ-loop
     loop-holds
-    mul-id-at
-    add-id-at
-    id-at-requires
+    mul-count-at
+    add-count-at
+    count-at-requires
     if-stays-requires
     add-left
     add-k

@@ -23,14 +23,14 @@ abbrev μ-loop : tie.MeasureT-loop
 μ-loop room₀ count ids n k₀ room k = n - k
 
 -- the id that was read is below the count
-listed : (c : tie.After-id-at Inv-loop μ-loop) → c .id-at .result < c .before .before .before .before .before .before .before .before .before .args .count
+listed : (c : tie.After-count-at Inv-loop μ-loop) → c .count-at .result < c .before .before .before .before .before .before .before .before .before .args .count
 listed c =
     let s = c .before .before .before .before .before .before .before .before .before in
     let a = s .args in
     let k = c .before .before .loop .k in
     omega (
       arith,
-      c .id-at .ensures .0,
+      c .count-at .ensures .0,
       getD-numbers 2 (a .n) (now (a .ids)) k (omega arith),
       below-at (a .count) (numbers 2 (a .n) (now (a .ids))) k (s .pre .2) (omega (arith, length-numbers 2 (a .n) (now (a .ids)))),
     )
@@ -41,11 +41,11 @@ clear-requires c κs = omega arith
 loop-holds : tie.Need-loop-holds Inv-loop μ-loop
 loop-holds c = (omega arith, refl, λ i h. unmarked (c .before .before .clear .last .0) i (c .before .before .clear .ensures i h))
 
-mul-id-at : tie.Need-mul-id-at Inv-loop μ-loop
-mul-id-at c = omega arith
+mul-count-at : tie.Need-mul-count-at Inv-loop μ-loop
+mul-count-at c = omega arith
 
-id-at-requires : tie.Need-id-at-requires Inv-loop μ-loop
-id-at-requires c κs = omega arith
+count-at-requires : tie.Need-count-at-requires Inv-loop μ-loop
+count-at-requires c κs = omega arith
 
 slice-write-room : tie.Need-slice-write-room Inv-loop μ-loop
 slice-write-room c = omega (arith, listed c)
@@ -62,7 +62,7 @@ loop-again c =
     let l = c .before .before .loop in (
       omega arith,
       simp length-set (l .inv .1),
-      marked-more (l .room) (now (a .ids)) (a .count) (l .k) (c .id-at .result) (c .id-at .ensures .0) (omega (arith, listed c)) (l .inv .2),
+      marked-more (l .room) (now (a .ids)) (a .count) (l .k) (c .count-at .result) (c .count-at .ensures .0) (omega (arith, listed c)) (l .inv .2),
     )
 
 same-length : tie.Need-same-length Inv-loop μ-loop
@@ -83,8 +83,8 @@ mark-spec =
     μ-loop
     clear-requires
     loop-holds
-    mul-id-at
-    id-at-requires
+    mul-count-at
+    count-at-requires
     slice-write-room
     add-k
     loop-less

@@ -23,22 +23,22 @@ abbrev μ-loop : tie.MeasureT-loop
 μ-loop src at n map out₀ first to₀ k₀ out to k = n - k
 
 -- the id that was read is the list's
-read : (c : tie.After-id-at Inv-loop μ-loop) → c .id-at .result ≡ getD (numbers 2 (c .before .before .before .before .before .before .args .n) (drop (c .before .before .before .before .before .before .args .at) (now (c .before .before .before .before .before .before .args .src)))) (c .before .before .loop .k) 0
+read : (c : tie.After-count-at Inv-loop μ-loop) → c .count-at .result ≡ getD (numbers 2 (c .before .before .before .before .before .before .args .n) (drop (c .before .before .before .before .before .before .args .at) (now (c .before .before .before .before .before .before .args .src)))) (c .before .before .loop .k) 0
 read c =
     let a = c .before .before .before .before .before .before .args in
-    c .id-at .ensures .0 ∙ sym (number-there 2 (a .n) (now (a .src)) (a .at) (c .before .before .loop .k) (omega arith))
+    c .count-at .ensures .0 ∙ sym (number-there 2 (a .n) (now (a .src)) (a .at) (c .before .before .loop .k) (omega arith))
 
 loop-holds : tie.Need-loop-holds Inv-loop μ-loop
 loop-holds c = (omega arith, put-none (now (c .before .before .before .args .out)) (c .before .before .before .args .first))
 
-mul-id-at : tie.Need-mul-id-at Inv-loop μ-loop
-mul-id-at c = omega arith
+mul-count-at : tie.Need-mul-count-at Inv-loop μ-loop
+mul-count-at c = omega arith
 
-add-id-at : tie.Need-add-id-at Inv-loop μ-loop
-add-id-at c = omega arith
+add-count-at : tie.Need-add-count-at Inv-loop μ-loop
+add-count-at c = omega arith
 
-id-at-requires : tie.Need-id-at-requires Inv-loop μ-loop
-id-at-requires c κs = omega arith
+count-at-requires : tie.Need-count-at-requires Inv-loop μ-loop
+count-at-requires c κs = omega arith
 
 put-moved-requires : tie.Need-put-moved-requires Inv-loop μ-loop
 put-moved-requires c κs =
@@ -90,9 +90,9 @@ put-moved-ids-spec =
     Inv-loop
     μ-loop
     loop-holds
-    mul-id-at
-    add-id-at
-    id-at-requires
+    mul-count-at
+    add-count-at
+    count-at-requires
     put-moved-requires
     add-k
     loop-less

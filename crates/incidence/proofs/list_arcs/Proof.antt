@@ -37,7 +37,7 @@ fitting : (c : tie.After-count-at2 Inv-loop μ-loop)
 fitting c =
     let a = c .before .before .before .before .before .before .args in
     let l = c .before .before .before .loop in
-    fit (now (a .src)) (a .nodes) (a .edges) (c .before .before .before .before .before .before .pre .1) (words (l .room)) (l .e) (l .k) (l .at) (l .inv .1) (c .before .before .loop-test .taken) (long (c .before .before)) (c .before .count-at .result) (c .count-at2 .result) (c .before .count-at .ensures) (c .count-at2 .ensures)
+    fit (now (a .src)) (a .nodes) (a .edges) (c .before .before .before .before .before .before .pre .1) (words (l .room)) (l .e) (l .k) (l .at) (l .inv .1) (c .before .before .loop-test .taken) (long (c .before .before)) (c .before .count-at .result) (c .count-at2 .result) (c .before .count-at .ensures .0) (c .count-at2 .ensures .0)
 
 add-at : tie.Need-add-at Inv-loop μ-loop
 add-at c = omega (arith, small (c .before .before))
@@ -101,7 +101,7 @@ loop-again c = let a = c .before .before .before .before .before .before .before
     let t = c .before .before .before .before .count-at2 in (
       omega arith,
       sofar-turn (a .src .now) (a .nodes) (a .edges) (c .before .before .before .before .before .before .before .before .before .before .pre .1) (words (l .room)) (l .e) (l .k) (l .at) (l .inv .1) (c .before .before .before .before .before .before .loop-test .taken) (long (c .before .before .before .before .before .before))
-          (s .result) (t .result) (s .ensures) (t .ensures) (words (c .before .before .put-edge .last .0)) (c .before .before .put-edge .ensures),
+          (s .result) (t .result) (s .ensures .0) (t .ensures .0) (words (c .before .before .put-edge .last .0)) (c .before .before .put-edge .ensures),
       c .before .before .put-edge .kept .0 ∙ l .inv .2,
     )
 
