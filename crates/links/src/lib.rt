@@ -172,10 +172,10 @@ fn put_left(room: &[u8], nodes: usize, id: usize, out: &mut [u8], at: usize) -> 
     let a = chain_length(room, nodes, head);
     let b = chain_length(room, nodes, tail);
     form::put_two(out, at, a, 1 + b);
-    let middle = at + 4 + a * 2;
+    let middle = at + 4 + a * form::WIDTH;
     put_chain(room, nodes, head, out, middle);
     le::put2(out, middle, id as u32);
-    let end = middle + 2 + b * 2;
+    let end = middle + form::WIDTH + b * form::WIDTH;
     put_chain(room, nodes, tail, out, end);
     end
 }
@@ -195,9 +195,9 @@ fn put_right(room: &[u8], nodes: usize, id: usize, out: &mut [u8], at: usize) ->
     let b = chain_length(room, nodes, tail);
     form::put_two(out, at, 1 + a, b);
     le::put2(out, at + 4, id as u32);
-    let middle = at + 6 + a * 2;
+    let middle = at + 6 + a * form::WIDTH;
     put_chain(room, nodes, head, out, middle);
-    let end = middle + b * 2;
+    let end = middle + b * form::WIDTH;
     put_chain(room, nodes, tail, out, end);
     end
 }

@@ -6,6 +6,7 @@ mod list;
 
 ghost use Prim.Native.Nat.{_+_, _<_, _≤_};
 ghost use mathlib.Core.Path.{_≡_};
+ghost use mathlib.Core.Bool.{cond};
 ghost use lib.ListN.{length};
 use calls::returns_due;
 use libc::STDOUT_FILENO;
@@ -31,7 +32,7 @@ impl Tally {
     // One call more, told by its number, from 1 on, where it is one of the first that differ.
     fn counted(self, agrees: bool) -> Self
         requires { ⌜ (self .differ ≤ self .calls) × (self .calls < 18446744073709551615) ⌝ }
-        ensures { λ r. ⌜ (r .differ ≤ r .calls) × (r .calls ≡ self .calls + 1) ⌝ }
+        ensures { λ r. ⌜ (r .differ ≡ self .differ + cond agrees 0 1) × (r .differ ≤ r .calls) × (r .calls ≡ self .calls + 1) ⌝ }
     {
         let calls = self.calls + 1;
         let differ = self.differ;
