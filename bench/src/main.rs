@@ -1,10 +1,12 @@
 //! Measures each exported function beside the original and plain Rust, on the same inputs in one process, and prints
-//! tables for docs/MEASURES.md; or, by `growth FILE.svg`, how the time of each grows with its drawing.
+//! tables for docs/MEASURES.md; or, by `growth FILE.svg`, how the time of each grows with its drawing; or, by `between
+//! BEFORE.so NOW.so`, two builds of the port beside each other.
 //!
 //! A group of functions has a module, which declares them and puts each behind a safe one of the same name. A slice
 //! passes as a pointer and a length. No two slices of a call overlap here, and a slice's pointer is never null: that is
 //! all the port asks of its caller.
 
+mod between;
 mod building;
 mod choice;
 mod deleting;
@@ -29,7 +31,11 @@ fn main() -> ExitCode {
     let measured = match &arguments[..] {
         [] => measure(),
         [mode, file] if mode == "growth" => growth::measure(file),
-        _ => Err("usage: cargo run --release [-- growth FILE.svg]".to_string()),
+        [mode, before, now] if mode == "between" => between::measure(before, now),
+        _ => Err(
+            "usage: cargo run --release [-- growth FILE.svg | -- between BEFORE.so NOW.so]"
+                .to_string(),
+        ),
     };
     match measured {
         Ok(()) => ExitCode::SUCCESS,

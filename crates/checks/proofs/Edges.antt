@@ -1,95 +1,105 @@
 -- Feeding edge by edge.
 -- Assumes nothing.
-use mathlib.Core.Bool.{true, false}
-use mathlib.Core.List.{List, [], _∷_, _++_, append-nil, append-assoc}
-use mathlib.Core.Logic.{⊎-elim}
-use mathlib.Core.Path.{_≡_, sym, ap, _∙_, subst}
-use Prim.Native.Nat.{ℕ, suc, _+_, _<_}
+use mathlib.Core.Bool.{Bool, true, false}
+use mathlib.Core.List.{List, [], _∷_, _++_, append-nil}
+use mathlib.Core.Path.{_≡_, refl, sym, ap, _∙_, subst}
+use Prim.Native.Nat.{ℕ, suc, _+_, _≤_, _<_}
 use native.Mathlib.Omega.{arith}
 use lib.ListN.{length, getD, take, drop}
-use lib.Seq.{split-at, take-all}
-use Rattle.checks.specs.Fed.{Fed, Twice, Feeding, FedBoth}
-use Rattle.form.specs.Stored.{graphOf, Whole, sourcesAt, targetsAt, edgeEnd}
-use Rattle.form.specs.Form.{edgesAt}
+use lib.Seq.{take-all}
+use Rattle.checks.specs.Fed.{Fed, Twice, FedBoth}
+use Rattle.form.specs.Form.{bodyOf, edgeIn}
+use Rattle.form.specs.Stored.{graphOf, Stored, EdgeThere}
+use Rattle.form.specs.declared.EdgeAt.{EdgeAt}
 use Rattle.form.specs.declared.Sizes.{Sizes}
 use Rattle.graph.specs.Checks.{onceFed}
+use Rattle.graph.specs.Form.{edgeStart, noEdge}
 use Rattle.graph.specs.Graph.{Edge, edgeSources, edgeTargets}
-use Rattle.graph.proofs.Laws.{joined-append}
-use Rattle.checks.proofs.Fed.{twice-later, is-once-fed, not-once-fed}
-use Rattle.form.proofs.Walk.{At, Here, start, here, none, edges-more, edge-count, node-count}
-
--- the table after the first i edges
-pub record Sofar (b old table : List ℕ) (nodes i at : ℕ) : Type 0 where
-  pub walk : At b i at
-  pub fed : Fed old nodes [] [] → Fed table nodes (edgeSources (take i (graphOf b .edges))) (edgeTargets (take i (graphOf b .edges)))
-
-pub begun : (b old : List ℕ) (z : Sizes) → Whole b z → Sofar b old old (z .nodes) 0 (edgesAt (z .nodes) (z .edges))
-begun b old z w = record { walk = start w; fed = λ f. f }
+use Rattle.graph.specs.Lists.{joined, occurrences}
+use Rattle.le.specs.Le.{Below}
+use Rattle.le.specs.Rows.{Holds, span}
+use Rattle.le.specs.declared.Row.{Row}
+use Rattle.form.proofs.Stored.{edge-there}
+use Rattle.graph.proofs.Laws.{joined-append, joined-at}
+use Rattle.graph.proofs.Rows.{take-edges}
+use Rattle.le.proofs.Rows.{holds-less}
+use Rattle.checks.proofs.Fed.{occurrences-append, twice-among, is-once-fed, not-once-fed}
 
 -- the entries of one way, with those of one edge more
-one-more : (part : Edge → List ℕ) (list : List Edge → List ℕ) → ((xs ys : List Edge) → list (xs ++ ys) ≡ list xs ++ list ys) → ((e : Edge) → list (e ∷ []) ≡ part e)
-    → (es : List Edge) (e : Edge) (all : List Edge) → all ≡ es ++ (e ∷ []) → list all ≡ list es ++ part e
-one-more part list split one es e all p = ap list p ∙ split es (e ∷ []) ∙ ap (λ (l : List ℕ). list es ++ l) (one e)
+one-more : (part : Edge → List ℕ) (es : List Edge) (i : ℕ) → i < length es → joined part (take (i + 1) es) ≡ joined part (take i es) ++ part (getD es i noEdge)
+one-more part es i l =
+    let e = getD es i noEdge in
+    ap (joined part) (take-edges es i l) ∙ joined-append part (take i es) (e ∷ []) ∙ ap (λ (l : List ℕ). joined part (take i es) ++ l) (append-nil (part e))
 
-sources-more : (es : List Edge) (e : Edge) (all : List Edge) → all ≡ es ++ (e ∷ []) → edgeSources all ≡ edgeSources es ++ e .sources
-sources-more = one-more (λ e. e .sources) edgeSources (joined-append (λ (e : Edge). e .sources)) (λ e. append-nil (e .sources))
+-- they are among all
+among-all : (part : Edge → List ℕ) (es : List Edge) (i : ℕ) → i < length es → (v : ℕ)
+    → occurrences v (joined part (take i es) ++ part (getD es i noEdge)) ≤ occurrences v (joined part es)
+among-all part es i l v =
+    let front = joined part (take i es) in
+    let here = part (getD es i noEdge) in
+    let rest = joined part (drop (suc i) es) in
+    omega (arith, ap (occurrences v) (joined-at part es i noEdge l), occurrences-append v front (here ++ rest), occurrences-append v here rest, occurrences-append v front here)
 
-targets-more : (es : List Edge) (e : Edge) (all : List Edge) → all ≡ es ++ (e ∷ []) → edgeTargets all ≡ edgeTargets es ++ e .targets
-targets-more = one-more (λ e. e .targets) edgeTargets (joined-append (λ (e : Edge). e .targets)) (λ e. append-nil (e .targets))
+-- the table after the first i edges, and where the next one begins
+pub record Sofar (b table : List ℕ) (nodes i k : ℕ) : Type 0 where
+  pub is-start : k ≡ edgeStart (graphOf b .edges) i
+  pub fed : Fed table nodes 1 (edgeSources (take i (graphOf b .edges))) (edgeTargets (take i (graphOf b .edges)))
 
-module _ (b old : List ℕ) (z : Sizes) (w : Whole b z) (table : List ℕ) (i at : ℕ) (less : i < z .edges) (sofar : Sofar b old table (z .nodes) i at) (new : List ℕ) (r : ℕ)
-    (fed : Feeding table new (z .nodes) r (edgeEnd b at) (sourcesAt b at) (targetsAt b at)) where
-  e : Edge
-  e = getD (graphOf b .edges) i none
+module _ {b : List ℕ} {z : Sizes} (s : Stored b z) where
+  is-nodes : z .nodes ≡ length (graphOf b .labels)
+  is-nodes = ap (λ (y : Sizes). y .nodes) (s .sizes)
 
-  it : Here b (z .nodes) i at (getD (graphOf b .edges) i none)
-  it = here w i at less (sofar .walk)
+  is-edges : z .edges ≡ length (graphOf b .edges)
+  is-edges = ap (λ (y : Sizes). y .edges) (s .sizes)
 
-  pub edge-more : (r ≡ 0 → ⊥) → Sofar b old new (z .nodes) (i + 1) r
-  edge-more ne =
-      ⊎-elim
-      (λ (h : (r ≡ edgeEnd b at) × FedBoth table new (z .nodes) true (sourcesAt b at) (targetsAt b at)). record {
-        walk = subst (At b (i + 1)) (sym (h .0)) (it .next);
-        fed = λ f.
-            let k = h .1 (edgeSources (take i (graphOf b .edges))) (edgeTargets (take i (graphOf b .edges))) (sofar .fed f) in
-            let m = edges-more w i less in
-            let s : edgeSources (take (i + 1) (graphOf b .edges)) ≡ edgeSources (take i (graphOf b .edges)) ++ sourcesAt b at =
-            sources-more (take i (graphOf b .edges)) (getD (graphOf b .edges) i none) (take (i + 1) (graphOf b .edges)) m ∙ ap (λ (l : List ℕ). edgeSources (take i (graphOf b .edges)) ++ l) (sym (it .sources)) in
-            let t : edgeTargets (take (i + 1) (graphOf b .edges)) ≡ edgeTargets (take i (graphOf b .edges)) ++ targetsAt b at =
-            targets-more (take i (graphOf b .edges)) (getD (graphOf b .edges) i none) (take (i + 1) (graphOf b .edges)) m ∙ ap (λ (l : List ℕ). edgeTargets (take i (graphOf b .edges)) ++ l) (sym (it .targets)) in
-            rw (s, t) k;
-      })
-      (λ (h : (r ≡ 0) × FedBoth table new (z .nodes) false (sourcesAt b at) (targetsAt b at)). absurd (ne (h .0)))
-      fed
+  pub begun : (table : List ℕ) → Fed table (z .nodes) 1 [] [] → Sofar b table (z .nodes) 0 0
+  begun table h = record { is-start = refl; fed = h }
 
-  pub edge-stop : r ≡ 0 → Fed old (length (graphOf b .labels)) [] [] → false ≡ onceFed (graphOf b)
-  edge-stop z′ f =
-      ⊎-elim
-      (λ (h : (r ≡ edgeEnd b at) × FedBoth table new (z .nodes) true (sourcesAt b at) (targetsAt b at)). absurd (omega (arith, h .0)))
-      (λ (h : (r ≡ 0) × FedBoth table new (z .nodes) false (sourcesAt b at) (targetsAt b at)).
+  module _ (table : List ℕ) (i k : ℕ) (less : i < z .edges) (sofar : Sofar b table (z .nodes) i k) where
+    pub there : EdgeThere b z (graphOf b) i k
+    there = edge-there s i k less (sofar .is-start)
+
+    -- what the code needs before it feeds the edge's nodes, and after
+    pub record Fit (r : Row) (e : EdgeAt) : Type 0 where
+      pub held : Holds b r (e .first + e .sources + e .targets)
+      pub sources-known : Below (z .nodes) (span b r (e .first) (e .sources))
+      pub targets-known : Below (z .nodes) (span b r (e .first + e .sources) (e .targets))
+      pub turn : (new : List ℕ) (yes : Bool) → yes ≡ true → FedBoth table new (z .nodes) yes (span b r (e .first) (e .sources)) (span b r (e .first + e .sources) (e .targets))
+          → Sofar b new (z .nodes) (i + 1) (e .end)
+      pub stop : (new : List ℕ) (yes : Bool) → yes ≡ false → FedBoth table new (z .nodes) yes (span b r (e .first) (e .sources)) (span b r (e .first + e .sources) (e .targets))
+          → onceFed (graphOf b) ≡ false
+
+    fit-body : (e : EdgeAt) → e ≡ edgeIn b (bodyOf z) k → Fit (bodyOf z) e
+    unfolding edgeIn
+    fit-body e is =
+        let g = graphOf b in
+        let d = getD (g .edges) i noEdge in
+        let h = there in
+        let inside : i < length (g .edges) = omega (arith, is-edges) in
+        let before = edgeSources (take i (g .edges)) in
+        let before′ = edgeTargets (take i (g .edges)) in
+        subst (Fit (bodyOf z)) (sym (is ∙ h .counts)) (record {
+          held =
+              holds-less (h .ids-held) _
+              (omega (arith, ap (λ (e : EdgeAt). e .sources) (h .counts), ap (λ (e : EdgeAt). e .targets) (h .counts), ap (λ (e : EdgeAt). e .end) (h .counts)));
+          sources-known = rw (h .source-ids, is-nodes) (h .sources-known);
+          targets-known = rw (h .target-ids, is-nodes) (h .targets-known);
+          turn = λ new yes e f. record {
+            is-start = refl;
+            fed = rw (one-more (λ (e : Edge). e .sources) (g .edges) i inside, one-more (λ (e : Edge). e .targets) (g .edges) i inside, ← h .source-ids, ← h .target-ids)
+                (rw e at (f before before′ (sofar .fed)));
+          };
+          stop = λ new yes e f.
+              let t : Twice (z .nodes) (before ++ d .sources) (before′ ++ d .targets) = rw (e, h .source-ids, h .target-ids) at (f before before′ (sofar .fed)) in
+              not-once-fed g (rw is-nodes at (twice-among (edgeSources (g .edges)) (edgeTargets (g .edges)) (among-all (λ e. e .sources) (g .edges) i inside)
+              (among-all (λ e. e .targets) (g .edges) i inside) t));
+        })
+
+    pub fit : (r : Row) → r ≡ bodyOf z → (e : EdgeAt) → e ≡ edgeIn b r k → Fit r e
+    fit r is e h = subst (λ (r : Row). Fit r e) (sym is) (fit-body e (h ∙ ap (λ (r : Row). edgeIn b r k) is))
+
+  pub ended : (table : List ℕ) (i k : ℕ) → i ≡ z .edges → Sofar b table (z .nodes) i k → onceFed (graphOf b) ≡ true
+  ended table i k e sofar =
       let g = graphOf b in
-      let f′ : Fed old (z .nodes) [] [] = subst (λ (n : ℕ). Fed old n [] []) (node-count w) f in
-      let k = h .1 (edgeSources (take i (g .edges))) (edgeTargets (take i (g .edges))) (sofar .fed f′) in
-      let later = drop (suc i) (g .edges) in
-      let cut = split-at (g .edges) i none (omega (arith, edge-count w)) in
-      let s : edgeSources (g .edges) ≡ (edgeSources (take i (g .edges)) ++ sourcesAt b at) ++ edgeSources later =
-      ap edgeSources cut ∙ joined-append (λ (e : Edge). e .sources) (take i (g .edges)) (getD (g .edges) i none ∷ later)
-      ∙ ap (λ (l : List ℕ). edgeSources (take i (g .edges)) ++ (l ++ edgeSources later)) (sym (it .sources))
-      ∙ sym (append-assoc (edgeSources (take i (g .edges))) (sourcesAt b at) (edgeSources later)) in
-      let t : edgeTargets (g .edges) ≡ (edgeTargets (take i (g .edges)) ++ targetsAt b at) ++ edgeTargets later =
-      ap edgeTargets cut ∙ joined-append (λ (e : Edge). e .targets) (take i (g .edges)) (getD (g .edges) i none ∷ later)
-      ∙ ap (λ (l : List ℕ). edgeTargets (take i (g .edges)) ++ (l ++ edgeTargets later)) (sym (it .targets))
-      ∙ sym (append-assoc (edgeTargets (take i (g .edges))) (targetsAt b at) (edgeTargets later)) in
-      let all : Twice (z .nodes) (edgeSources (g .edges)) (edgeTargets (g .edges)) = rw (s, t) (twice-later (z .nodes) _ _ (edgeSources later) (edgeTargets later) k) in
-      sym (not-once-fed g (subst (λ (n : ℕ). Twice n (edgeSources (g .edges)) (edgeTargets (g .edges))) (sym (node-count w)) all)))
-      fed
-
-pub edges-ended : (b old table : List ℕ) (z : Sizes) (w : Whole b z) (at : ℕ) → Sofar b old table (z .nodes) (z .edges) at
-    → Fed old (length (graphOf b .labels)) [] [] → true ≡ onceFed (graphOf b)
-edges-ended b old table z w at sofar f =
-    let g = graphOf b in
-    let n = node-count w in
-    let all : take (z .edges) (g .edges) ≡ g .edges = take-all (z .edges) (g .edges) (omega (arith, edge-count w)) in
-    let k : Fed table (z .nodes) (edgeSources (take (z .edges) (g .edges))) (edgeTargets (take (z .edges) (g .edges))) = sofar .fed (subst (λ (m : ℕ). Fed old m [] []) n f) in
-    let k₁ : Fed table (z .nodes) (edgeSources (g .edges)) (edgeTargets (g .edges)) = subst (λ (es : List Edge). Fed table (z .nodes) (edgeSources es) (edgeTargets es)) all k in
-    sym (is-once-fed table g (subst (λ (m : ℕ). Fed table m (edgeSources (g .edges)) (edgeTargets (g .edges))) (sym n) k₁))
+      let all : take i (g .edges) ≡ g .edges = take-all i (g .edges) (omega (arith, is-edges)) in
+      is-once-fed table g (rw (all, is-nodes) at (sofar .fed))

@@ -1,3 +1,2 @@
 pub mod Fed
 pub mod Edges
-pub mod Calls

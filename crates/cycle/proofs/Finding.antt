@@ -19,7 +19,8 @@ use Rattle.queue.specs.Queue as q
 use Rattle.queue.specs.Queue.{Holds, Popped, Before, higher, tied}
 use Rattle.queue.specs.declared.Candidate.{Candidate}
 use Rattle.removal.specs.Engine.{Kept, live, actives, picks, candidatesAt, waitList, insOf, outsOf, entry, entryOf, Held, Fixed, State, Removable, Removed}
-use Rattle.choice.proofs.Degrees.{Counted, inner, marked, is-true}
+use Rattle.choice.specs.Degrees.{Counted, inner, marked}
+use Rattle.choice.proofs.Degrees.{is-true}
 use Rattle.choice.proofs.Sets.{and-left, and-right, without-subset, gone}
 use Rattle.incidence.proofs.Parts.{part-ext}
 use Rattle.removal.proofs.Frames.{kept-none, kept-trans, kept-less, kept-set, kept-outside, kept-part, live-at, live-low, live-same}

@@ -1,29 +1,28 @@
--- The flagged nodes as an ascending list, and its bytes.
+-- The flagged nodes as an ascending list, and its row.
 -- Assumes nothing.
 use mathlib.Core.Bool.{Bool, cond}
 use mathlib.Core.List.{List, [], _∷_, _++_, append-nil, List·Memᴰ·head, List·Memᴰ·tail, List·Memᴰ·not-nil, List·Memᴰ·append-cases, List·Memᴰ·eq-of-singleton, Memᴰ·append-left, Memᴰ·append-right}
 use mathlib.Core.Logic.{⊎-elim}
 use mathlib.Core.Path.{_≡_, refl, sym, ap, _∙_, subst}
-use Prim.Native.Nat.{ℕ, zero, suc, _+_, _-_, _*_, _≤_, _<_}
+use Prim.Native.Nat.{ℕ, zero, suc, _+_, _-_, _≤_, _<_}
 use native.Mathlib.Decide.{ℕ-discrete, decLt}
 use native.Mathlib.Nat.{not-suc-le-zero}
 use native.Mathlib.Numerals.{add-one}
 use native.Mathlib.Omega.{arith}
 use lib.ListN.{length, getD, length-append}
-use lib.Seq.{sets}
 use borrow.Author.Tests.{eq-eqb, ne-eqb}
 use Rattle.choice.specs.Arcs.{In}
 use Rattle.choice.specs.Choice.{Above, Ascends}
 use Rattle.choice.specs.Drawing.{chosen}
 use Rattle.cycle.specs.Choosing.{ChosenIn, shown, flaggedBelow}
-use Rattle.form.specs.Stored.{graphOf}
-use Rattle.incidence.specs.Listed.{Drawn}
-use Rattle.le.specs.Le.{row}
+use Rattle.form.specs.Stored.{graphOf, Stored}
+use Rattle.form.specs.declared.Sizes.{Sizes}
+use Rattle.le.specs.Rows.{puts}
+use Rattle.le.specs.declared.Row.{Row}
 use Rattle.removal.specs.Engine.{picks}
 use Rattle.choice.proofs.Ascending.{ascends-ext}
 use Rattle.choice.proofs.Graphs.{chosen-ascends, chosen-are-nodes}
-use Rattle.le.proofs.Numbers.{row-append, length-row}
-use Rattle.le.proofs.Stores.{sets-append}
+use Rattle.le.proofs.Rows.{puts-append}
 
 pub shown-no : (W : List ℕ) (v : ℕ) → getD W (picks + v) 0 ≡ 0 → shown W v ≡ []
 shown-no W v e = ap (λ (b : Bool). cond b [] (v ∷ [])) (eq-eqb (getD W (picks + v) 0) 0 e)
@@ -80,13 +79,14 @@ flagged-ascends W (suc k) = go (flagged-ascends W k) (ℕ-discrete (getD W (pick
     go r (no f) = subst (λ (l : List ℕ). Ascends (flaggedBelow W k ++ l)) (sym (shown-yes W k f)) (ascends-snoc (flaggedBelow W k) k r (λ x i. flagged-in W k x i .0))
 
 -- the flagged nodes are the chosen ids
-pub flagged-chosen : (b : List ℕ) (nodes edges : ℕ) → Drawn b nodes edges → (X : List ℕ) (ids free : ℕ) → ChosenIn b X nodes ids free → flaggedBelow X nodes ≡ chosen (graphOf b) .ids
-flagged-chosen b nodes edges d X ids free c =
-    ascends-ext (flaggedBelow X nodes) (chosen (graphOf b) .ids) (flagged-ascends X nodes) (chosen-ascends (graphOf b) (d .formed .proper))
-    (λ x i. let r = flagged-in X nodes x i in c .flags x (r .0) .1 (r .1))
-    (λ x i. let l : x < nodes = omega (arith, chosen-are-nodes (graphOf b) (d .formed .proper) x i, d .is-nodes) in in-flagged X nodes x l (c .flags x l .0 i))
+pub flagged-chosen : (b : List ℕ) (z : Sizes) → Stored b z → (X : List ℕ) (ids free : ℕ) → ChosenIn b X (z .nodes) ids free → flaggedBelow X (z .nodes) ≡ chosen (graphOf b) .ids
+flagged-chosen b z s X ids free c =
+    let n = ap (λ (y : Sizes). y .nodes) (s .sizes) in
+    ascends-ext (flaggedBelow X (z .nodes)) (chosen (graphOf b) .ids) (flagged-ascends X (z .nodes)) (chosen-ascends (graphOf b) (s .formed .proper))
+    (λ x i. let r = flagged-in X (z .nodes) x i in c .flags x (r .0) .1 (r .1))
+    (λ x i. let l : x < z .nodes = omega (arith, chosen-are-nodes (graphOf b) (s .formed .proper) x i) in in-flagged X (z .nodes) x l (c .flags x l .0 i))
 
--- ---- the bytes
+-- ---- the row
 
 pub flagged-next : (W : List ℕ) (v : ℕ) → flaggedBelow W (v + 1) ≡ flaggedBelow W v ++ shown W v
 flagged-next W v = ap (flaggedBelow W) (add-one v)
@@ -103,9 +103,8 @@ flagged-fits W v nodes l =
     let e : nodes - (v + 1) + (v + 1) ≡ nodes = omega arith in
     omega (arith, flagged-fewer W (v + 1) (nodes - (v + 1)), ap (λ (k : ℕ). length (flaggedBelow W k)) e, ap length (flagged-next W v), length-append (flaggedBelow W v) (shown W v))
 
-pub flagged-turn : (W list₀ list next : List ℕ) (v at : ℕ) → at ≡ length (flaggedBelow W v) * 2 → list ≡ sets list₀ 0 (row 2 (flaggedBelow W v)) → next ≡ sets list at (row 2 (shown W v))
-    → next ≡ sets list₀ 0 (row 2 (flaggedBelow W (v + 1)))
-flagged-turn W list₀ list next v at e l n =
-    let place : at ≡ 0 + length (row 2 (flaggedBelow W v)) = omega (arith, length-row 2 (flaggedBelow W v)) in
-    n ∙ (λ i. sets (l i) (place i) (row 2 (shown W v))) ∙ sym (sets-append list₀ 0 (row 2 (flaggedBelow W v)) (row 2 (shown W v)))
-    ∙ ap (sets list₀ 0) (sym (row-append 2 (flaggedBelow W v) (shown W v)) ∙ ap (row 2) (sym (flagged-next W v)))
+pub flagged-turn : (W list₀ list next : List ℕ) (r : Row) (v k : ℕ) → k ≡ length (flaggedBelow W v) → list ≡ puts list₀ r 0 (flaggedBelow W v) → next ≡ puts list r k (shown W v)
+    → next ≡ puts list₀ r 0 (flaggedBelow W (v + 1))
+flagged-turn W list₀ list next r v k e l n =
+    let place : k ≡ 0 + length (flaggedBelow W v) = omega arith in
+    n ∙ (λ i. puts (l i) r (place i) (shown W v)) ∙ puts-append list₀ r 0 (flaggedBelow W v) (shown W v) ∙ ap (puts list₀ r 0) (sym (flagged-next W v))

@@ -15,8 +15,8 @@ use Rattle.choice.specs.Arcs.{Arc, In, Set, size}
 use Rattle.choice.specs.Choice.{Peels, rest, peel, taken, Chosen, choice}
 use Rattle.choice.specs.Drawing.{arcs, selectable, chosen}
 use Rattle.cycle.specs.Choosing.{among, Begun, Some, Chose, Ready, Ended, ChosenIn}
-use Rattle.form.specs.Stored.{graphOf}
-use Rattle.incidence.specs.Listed.{Drawn}
+use Rattle.form.specs.Stored.{graphOf, Stored}
+use Rattle.form.specs.declared.Sizes.{Sizes}
 use Rattle.incidence.specs.Tables.{arcsIn}
 use Rattle.removal.specs.Engine.{Kept, live, actives, picks, State, Peeled}
 use Rattle.choice.proofs.Core.{peels-taken}
@@ -24,7 +24,7 @@ use Rattle.choice.proofs.Fits.{proper-offers}
 use Rattle.choice.proofs.Graphs.{chosen-and-free-are-all}
 use Rattle.choice.proofs.Told.{Told, told-start, told-loose, told-best, told-done}
 use Rattle.choice.proofs.Sets.{size-empty, size-some, size-vertices, size-without}
-use Rattle.choice.proofs.Stages.{Offers}
+use Rattle.choice.specs.Promises.{Offers}
 use Rattle.incidence.proofs.Listing.{few-edges}
 use Rattle.le.proofs.Tables.{getD-sets}
 use Rattle.removal.proofs.Frames.{kept-none, kept-trans, kept-less}
@@ -133,46 +133,46 @@ module _ (arcs : List Arc) (n m selectable : ℕ) (W : List ℕ) (offers : Offer
 
 -- ---- of a stored drawing
 
-module _ (b : List ℕ) (nodes edges : ℕ) (d : Drawn b nodes edges) (W : List ℕ) (m waiting candidates : ℕ) (s : Begun b W (nodes + edges) m nodes waiting candidates)
-    (X : List ℕ) (is : X ≡ sets W picks (replicate nodes 0)) where
-  lr : length (replicate {A = ℕ} nodes 0) ≡ nodes
-  lr = length-replicate {A = ℕ} nodes 0
+module _ (b : List ℕ) (z : Sizes) (d : Stored b z) (W : List ℕ) (m waiting candidates : ℕ) (s : Begun b W (z .nodes + z .edges) m (z .nodes) waiting candidates)
+    (X : List ℕ) (is : X ≡ sets W picks (replicate (z .nodes) 0)) where
+  lr : length (replicate {A = ℕ} (z .nodes) 0) ≡ z .nodes
+  lr = length-replicate {A = ℕ} (z .nodes) 0
 
-  few : nodes ≤ 2048
-  few = few-edges b nodes edges d .0
+  few : z .nodes ≤ 2048
+  few = few-edges b z d .0
 
   cleared : Outside picks actives W X
-  cleared = subst (Outside picks actives W) (sym is) (outside-sets picks actives W picks (replicate nodes 0) (omega arith) (omega (arith, lr, few)))
+  cleared = subst (Outside picks actives W) (sym is) (outside-sets picks actives W picks (replicate (z .nodes) 0) (omega arith) (omega (arith, lr, few)))
 
-  state : State (arcsIn W m) (nodes + edges) m nodes X waiting candidates
-  state = state-flag (arcsIn W m) (nodes + edges) m W X (s .state .fixed) cleared nodes waiting candidates (s .state)
+  state : State (arcsIn W m) (z .nodes + z .edges) m (z .nodes) X waiting candidates
+  state = state-flag (arcsIn W m) (z .nodes + z .edges) m W X (s .state .fixed) cleared (z .nodes) waiting candidates (s .state)
 
   arcs-same : arcsIn X m ≡ arcs (graphOf b)
   arcs-same = state .fixed .is-arcs ∙ s .is-arcs
 
-  offers : Offers (arcsIn X m) (among nodes)
+  offers : Offers (arcsIn X m) (among (z .nodes))
   offers =
-      subst (λ (k : ℕ). Offers (arcsIn X m) (among k)) (d .is-nodes)
+      subst (λ (y : Sizes). Offers (arcsIn X m) (among (y .nodes))) (sym (d .sizes))
       (subst (λ (l : List Arc). Offers l (among (length (graphOf b .labels)))) (sym arcs-same) (proper-offers (graphOf b) (d .formed .proper)))
 
-  pub ready : Ready (arcsIn X m) (nodes + edges) m nodes X waiting candidates
+  pub ready : Ready (arcsIn X m) (z .nodes + z .edges) m (z .nodes) X waiting candidates
   ready = record {
-    all = live-flag (arcsIn W m) (nodes + edges) m W X (s .state .fixed) cleared ∙ s .all;
+    all = live-flag (arcsIn W m) (z .nodes + z .edges) m W X (s .state .fixed) cleared ∙ s .all;
     none = λ x l.
-        ap (λ (k : List ℕ). getD k (picks + x) 0) is ∙ getD-sets W picks (replicate nodes 0) x (omega (arith, lr)) (omega (arith, lr, few, s .state .fixed .long)) ∙ getD-replicate nodes x 0 0 l;
+        ap (λ (k : List ℕ). getD k (picks + x) 0) is ∙ getD-sets W picks (replicate (z .nodes) 0) x (omega (arith, lr)) (omega (arith, lr, few, s .state .fixed .long)) ∙ getD-replicate (z .nodes) x 0 0 l;
     offers = offers;
-    state = state-here (arcsIn W m) (nodes + edges) m nodes X waiting candidates state;
+    state = state-here (arcsIn W m) (z .nodes + z .edges) m (z .nodes) X waiting candidates state;
   }
 
-  same-choice : choice (arcsIn X m) (among nodes) (nodes + edges) ≡ chosen (graphOf b)
+  same-choice : choice (arcsIn X m) (among (z .nodes)) (z .nodes + z .edges) ≡ chosen (graphOf b)
   unfolding chosen
-  same-choice = λ i. choice (arcs-same i) (among (sym (d .is-nodes) i)) (sym (d .is-nodes) i + sym (d .is-edges) i)
+  same-choice = λ i. choice (arcs-same i) (among (d .sizes i .nodes)) (d .sizes i .nodes + d .sizes i .edges)
 
-  pub chosen-in : (Y : List ℕ) (ids free : ℕ) → Ended (arcsIn X m) (nodes + edges) nodes Y ids free → ChosenIn b Y nodes ids free
+  pub chosen-in : (Y : List ℕ) (ids free : ℕ) → Ended (arcsIn X m) (z .nodes + z .edges) (z .nodes) Y ids free → ChosenIn b Y (z .nodes) ids free
   chosen-in Y ids free e =
       let f : free ≡ chosen (graphOf b) .free = e .is-free ∙ ap (λ (c : Chosen). c .free) same-choice in
-      let n = d .is-nodes in
-      let k = d .is-edges in
+      let n = ap (λ (y : Sizes). y .nodes) (d .sizes) in
+      let k = ap (λ (y : Sizes). y .edges) (d .sizes) in
       record {
         flags = λ x l. subst (λ (c : Chosen). In x (c .ids) ↔ (getD Y (picks + x) 0 ≡ 0 → ⊥)) same-choice (e .flags x l);
         count = omega (arith, e .sum, f, chosen-and-free-are-all (graphOf b) (d .formed .proper));

@@ -9,7 +9,7 @@ use lib.Dec.{T, eqb, ltb}
 use lib.ListN.{length, getD}
 use Rattle.choice.specs.Arcs.{Arc, In, has, without, vertices}
 use Rattle.choice.specs.Choice.{Best, choice}
-use Rattle.choice.proofs.Stages.{Offers}
+use Rattle.choice.specs.Promises.{Offers}
 use Rattle.choice.specs.Drawing.{arcs, chosen}
 use Rattle.incidence.specs.Tables.{arcsIn}
 use Rattle.form.specs.Stored.{graphOf}

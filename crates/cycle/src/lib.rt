@@ -1,25 +1,22 @@
 // The choice of cycle-breaking nodes and the no-loop check, over the incidence graph of a stored drawing in a lent room.
 ghost use mathlib.Core.Path.{_≡_};
-ghost use mathlib.Core.List.{_∷_};
 ghost use Prim.Native.Nat.{_+_, _*_, _<_, _≤_};
 ghost use lib.ListN.{length};
-ghost use lib.Seq.{sets};
-ghost use Rattle.le.specs.Le.{words, row};
-ghost use Rattle.graph.specs.Graph.{form1};
-ghost use Rattle.graph.specs.Answer.{laid};
-ghost use Rattle.graph.specs.Calls.{inWorkRoom};
+ghost use Rattle.le.specs.Le.{words};
+ghost use Rattle.le.specs.Rows.{Holds, puts};
 ghost use Rattle.choice.specs.Drawing.{noLoop};
 ghost use Rattle.choice.specs.Calls.{noLoopCall, cycleBreakingNodesCall};
 ghost use Rattle.incidence.specs.Tables.{arcsIn};
-ghost use Rattle.form.specs.Stored.{graphOf};
-ghost use Rattle.incidence.specs.Listed.{Drawn};
+ghost use Rattle.form.specs.Stored.{graphOf, Stored};
 ghost use Rattle.removal.specs.Engine.{Room, State};
-ghost use Rattle.form.specs.Form.{checked};
-ghost use Rattle.cycle.specs.Answers.{cut};
+ghost use Rattle.form.specs.Form.{outcome, Gives};
 ghost use Rattle.cycle.specs.Choosing.{Begun, agreed, Some, Found, Chose, Ready, Ended, ChosenIn, shown, flaggedBelow};
-use form::Checked;
+use form::Outcome;
 use form::Reading;
 use form::Refusal;
+use form::Sizes;
+use form::Step;
+use le::Row;
 use removal::Pending;
 use removal::Shape;
 
@@ -36,13 +33,13 @@ pub struct Entries {
 }
 
 // The incidence graph of a stored drawing, with all its vertices, each where it belongs.
-fn start(room: &mut [u8], src: &[u8], nodes: usize, edges: usize, selectable: usize) -> Entries
+fn start(room: &mut [u8], src: &[u8], z: Sizes, selectable: usize) -> Entries
     requires { ⌜ (selectable ≤ 2048) × Room (length (now room)) selectable ⌝ }
-    requires { ⌜ Drawn (now src) nodes edges ⌝ }
-    ensures { λ r. ⌜ Begun (now (src .entry)) (words (now (room .exit))) (nodes + edges) (r .ports) selectable (r .waiting) (r .candidates) ⌝ }
+    requires { ⌜ Stored (now src) z ⌝ }
+    ensures { λ r. ⌜ Begun (now (src .entry)) (words (now (room .exit))) (z .nodes + z .edges) (r .ports) selectable (r .waiting) (r .candidates) ⌝ }
 {
-    let ports = incidence::build(room, src, nodes, edges);
-    let n = nodes + edges;
+    let ports = incidence::build(room, src, z);
+    let n = z.nodes + z.edges;
     incidence::put_same(room, removal::ACTIVE, n, 1);
     let p = removal::seed(room, n, selectable);
     Entries {
@@ -53,14 +50,14 @@ fn start(room: &mut [u8], src: &[u8], nodes: usize, edges: usize, selectable: us
 }
 
 // Whether all vertices go freely.
-fn is_acyclic(room: &mut [u8], src: &[u8], nodes: usize, edges: usize) -> bool
+fn is_acyclic(room: &mut [u8], src: &[u8], z: Sizes) -> bool
     requires { ⌜ 303104 ≤ length (now room) ⌝ }
-    requires { ⌜ Drawn (now src) nodes edges ⌝ }
+    requires { ⌜ Stored (now src) z ⌝ }
     ensures { λ r. ⌜ r ≡ noLoop (graphOf (now (src .entry))) ⌝ }
 {
-    let s = start(room, src, nodes, edges, 0);
+    let s = start(room, src, z, 0);
     let g = Shape {
-        vertices: nodes + edges,
+        vertices: z.nodes + z.edges,
         selectable: 0,
         ports: s.ports,
     };
@@ -69,24 +66,29 @@ fn is_acyclic(room: &mut [u8], src: &[u8], nodes: usize, edges: usize) -> bool
         candidates: s.candidates,
     };
     let freed = removal::peel(room, g, p);
-    freed.removed == nodes + edges
+    freed.removed == z.nodes + z.edges
 }
 
 // Whether the stored drawing has no directed cycle.
-pub fn no_loop(src: &[u8], room: &mut [u8]) -> Checked
-    ensures { λ r. ⌜ r ≡ checked (inWorkRoom 303104 (length (now (room .entry))) (noLoopCall form1 (now (src .entry)))) ⌝ }
+pub fn no_loop(src: &[u8], room: &mut [u8]) -> Outcome
+    ensures { λ r. ⌜ r ≡ outcome (noLoopCall (now (src .entry)) (length (now (room .entry)))) ⌝ }
 {
-    if room.len() < ROOM_NO_LOOP {
-        return Checked::Refused(Refusal { no: 10 });
-    }
-    let graph = form::read(src);
-    let Reading::Sized(z) = graph else {
-        return Checked::Refused(graph.refusal());
+    let lent = read::work_room(room.len(), ROOM_NO_LOOP);
+    let Step::Number(_) = lent else {
+        return Outcome::Refused(lent.refusal());
     };
-    if z.pairs != 0 {
-        return Checked::Refused(Refusal { no: 8 });
+    let graph = read::read(src);
+    let Reading::Sized(z) = graph else {
+        return Outcome::Refused(graph.refusal());
+    };
+    let pairs = read::unpaired(z);
+    let Step::Number(_) = pairs else {
+        return Outcome::Refused(pairs.refusal());
+    };
+    if is_acyclic(room, src, z) {
+        return Outcome::Done { a: 1, b: 0 };
     }
-    Checked::Answer(is_acyclic(room, src, z.nodes, z.edges))
+    Outcome::Done { a: 0, b: 0 }
 }
 
 // Whether the candidate's node remains and has the arcs in and out that it was queued with.
@@ -199,16 +201,16 @@ fn greedy_feedback_nodes(room: &mut [u8], g: Shape, p: Pending) -> Choice
 }
 
 // The choice of a stored drawing: its nodes flagged in the room, how many there are, and how many vertices went freely.
-fn flag_nodes(room: &mut [u8], src: &[u8], nodes: usize, edges: usize) -> Choice
+fn flag_nodes(room: &mut [u8], src: &[u8], z: Sizes) -> Choice
     requires { ⌜ 466944 ≤ length (now room) ⌝ }
-    requires { ⌜ Drawn (now src) nodes edges ⌝ }
-    ensures { λ r. ⌜ ChosenIn (now (src .entry)) (words (now (room .exit))) nodes (r .ids) (r .free) ⌝ }
+    requires { ⌜ Stored (now src) z ⌝ }
+    ensures { λ r. ⌜ ChosenIn (now (src .entry)) (words (now (room .exit))) (z .nodes) (r .ids) (r .free) ⌝ }
 {
-    let s = start(room, src, nodes, edges, nodes);
-    incidence::put_same(room, removal::PICKED, nodes, 0);
+    let s = start(room, src, z, z.nodes);
+    incidence::put_same(room, removal::PICKED, z.nodes, 0);
     let g = Shape {
-        vertices: nodes + edges,
-        selectable: nodes,
+        vertices: z.nodes + z.edges,
+        selectable: z.nodes,
         ports: s.ports,
     };
     let p = Pending {
@@ -218,58 +220,60 @@ fn flag_nodes(room: &mut [u8], src: &[u8], nodes: usize, edges: usize) -> Choice
     greedy_feedback_nodes(room, g, p)
 }
 
-// v in the list, if it is flagged; answered is where the next id goes.
-fn put_flagged(list: &mut [u8], room: &[u8], v: usize, at: usize) -> usize
-    requires { ⌜ (v < 2048) × (303104 ≤ length (now room)) × (at + length (shown (words (now room)) v) * 2 ≤ length (now list)) ⌝ }
-    ensures { λ r. ⌜ (r ≡ at + length (shown (words (now (room .entry))) v) * 2) × (now (list .exit) ≡ sets (now (list .entry)) at (row 2 (shown (words (now (room .entry))) v))) ⌝ }
+// v as number k of a row, if it is flagged; answered is where the next id goes.
+fn put_flagged(list: &mut [u8], room: &[u8], r: Row, v: usize, k: usize) -> usize
+    requires { ⌜ (v < 2048) × (303104 ≤ length (now room)) × Holds (now list) r (k + length (shown (words (now room)) v)) ⌝ }
+    ensures { λ i. ⌜ (i ≡ k + length (shown (words (now (room .entry))) v)) × (now (list .exit) ≡ puts (now (list .entry)) r k (shown (words (now (room .entry))) v)) ⌝ }
 {
     if le::word(room, removal::PICKED + v) == 0 {
-        return at;
+        return k;
     }
-    le::put2(list, at, v as u32);
-    at + form::WIDTH
+    le::put_number(list, r, k, v);
+    k + 1
 }
 
-// The flagged nodes, ascending.
-fn put_chosen(list: &mut [u8], room: &[u8], nodes: usize)
-    requires { ⌜ (nodes ≤ 2048) × (303104 ≤ length (now room)) × (length (flaggedBelow (words (now room)) nodes) * 2 ≤ length (now list)) ⌝ }
-    ensures { λ _. ⌜ now (list .exit) ≡ sets (now (list .entry)) 0 (row 2 (flaggedBelow (words (now (room .entry))) nodes)) ⌝ }
+// The flagged nodes, ascending, in a row.
+fn put_chosen(list: &mut [u8], room: &[u8], r: Row, nodes: usize)
+    requires { ⌜ (nodes ≤ 2048) × (303104 ≤ length (now room)) × Holds (now list) r (length (flaggedBelow (words (now room)) nodes)) ⌝ }
+    ensures { λ _. ⌜ now (list .exit) ≡ puts (now (list .entry)) r 0 (flaggedBelow (words (now (room .entry))) nodes) ⌝ }
 {
-    let mut at: usize = 0;
+    let mut k: usize = 0;
     for v in 0..nodes {
-        at = put_flagged(list, room, v, at);
+        k = put_flagged(list, room, r, v, k);
     }
 }
 
-// What the choice answers: the ids in the list, and how many vertices went freely.
-pub enum Cutting {
-    Done { ids: usize, free: usize },
-    Refused(Refusal),
-}
-
-// The nodes that break every directed cycle of the stored drawing, chosen greedily.
-pub fn cycle_breaking_nodes(src: &[u8], list: &mut [u8], room: &mut [u8]) -> Cutting
-    ensures { λ r. ⌜ r ≡ cut (inWorkRoom 466944 (length (now (room .entry))) (cycleBreakingNodesCall form1 (now (src .entry)) (length (now (list .entry))))) ⌝ }
-    ensures { λ r. ⌜ now (list .exit)
-        ≡ laid (λ c. c .list) (inWorkRoom 466944 (length (now (room .entry))) (cycleBreakingNodesCall form1 (now (src .entry)) (length (now (list .entry))))) (now (list .entry)) ⌝ }
+// The nodes that break every directed cycle of the stored drawing, chosen greedily: how many ids stand in the list, and how many vertices went freely.
+pub fn cycle_breaking_nodes(src: &[u8], list: &mut [u8], room: &mut [u8]) -> Outcome
+    ensures { λ r. ⌜ Gives (cycleBreakingNodesCall (now (src .entry)) (length (now (list .entry))) (length (now (room .entry)))) r (now (list .entry)) (now (list .exit)) ⌝ }
 {
-    if room.len() < ROOM_CYCLE_BREAKING_NODES {
-        return Cutting::Refused(Refusal { no: 10 });
-    }
-    let graph = form::read(src);
-    let Reading::Sized(z) = graph else {
-        return Cutting::Refused(graph.refusal());
+    let lent = read::work_room(room.len(), ROOM_CYCLE_BREAKING_NODES);
+    let Step::Number(_) = lent else {
+        return Outcome::Refused(lent.refusal());
     };
-    if z.pairs != 0 {
-        return Cutting::Refused(Refusal { no: 8 });
+    let graph = read::read(src);
+    let Reading::Sized(z) = graph else {
+        return Outcome::Refused(graph.refusal());
+    };
+    let pairs = read::unpaired(z);
+    let Step::Number(_) = pairs else {
+        return Outcome::Refused(pairs.refusal());
+    };
+    let c = flag_nodes(room, src, z);
+    if list.len() < c.ids * z.width {
+        return Outcome::Refused(Refusal { no: 10 });
     }
-    let c = flag_nodes(room, src, z.nodes, z.edges);
-    if list.len() < c.ids * form::WIDTH {
-        return Cutting::Refused(Refusal { no: 10 });
-    }
-    put_chosen(list, room, z.nodes);
-    Cutting::Done {
-        ids: c.ids,
-        free: c.free,
+    put_chosen(
+        list,
+        room,
+        Row {
+            at: 0,
+            width: z.width,
+        },
+        z.nodes,
+    );
+    Outcome::Done {
+        a: c.ids,
+        b: c.free,
     }
 }

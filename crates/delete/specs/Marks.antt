@@ -1,73 +1,48 @@
--- What the work room and the map say of ids, and what is left by them. A byte of the room stands for each id, and in the map 2 bytes for each old node.
+-- What the work room and the map say of ids: a byte of the room stands for each id, and a number of the map for each old node.
 -- Assumes nothing.
-use Prim.Native.Nat.{ℕ, _*_}
-use mathlib.Core.List.{List, _∷_, map}
-use mathlib.Core.Bool.{Bool, not, _&&_}
+use mathlib.Core.Path.{_≡_}
+use Prim.Native.Nat.{ℕ, _+_, _-_, _^_, _≤_, _<_}
+use mathlib.Core.List.{List, map}
+use mathlib.Core.Bool.{Bool, false, not, cond, _&&_}
 use lib.ListN.{length, getD}
-use lib.Dec.{eqb}
-use Rattle.le.specs.Le.{numberAt}
-use Rattle.graph.specs.Lists.{keep, range}
-use Rattle.graph.specs.Graph.{Edge, Graph, edgeEntries, form1}
-use Rattle.graph.specs.Delete.{remaining, whereTo}
+use lib.Dec.{ltb, eqb}
+use Rattle.le.specs.Rows.{Holds, rowAt, entry, span}
+use Rattle.le.specs.declared.Row.{Row}
 use Rattle.graph.specs.Build.{withEdges}
-use Rattle.delete.specs.declared.Left.{Left}
+use Rattle.graph.specs.Delete.{remaining, newId}
+use Rattle.graph.specs.Graph.{Edge, Graph}
+use Rattle.graph.specs.Lists.{range}
+use Rattle.form.specs.Form.{Low, bodyOf}
+use Rattle.form.specs.declared.EdgeAt.{EdgeAt}
+use Rattle.form.specs.declared.Sizes.{Sizes}
 
--- the work room that each call is lent at least: a byte for each edge, a byte for each node
-abbrev pub roomDeleteEdges : ℕ
-roomDeleteEdges = 2048
+-- the room marks an id, one of the first n, as one that goes
+unfoldable pub marked : List ℕ → ℕ → ℕ → Bool
+marked room n id = ltb id n && not (eqb (getD room id 0) 0)
 
-abbrev pub roomDeleteNodes : ℕ
-roomDeleteNodes = 2048
+-- the graph without those of its edges, n in number, that are marked
+abbrev pub unmarkedEdges : List ℕ → ℕ → Graph → Graph
+unmarkedEdges room n g = withEdges (remaining (marked room n) 0 (g .edges)) g
 
--- the room marks an id as one that goes
-unfoldable pub marked : List ℕ → ℕ → Bool
-marked room id = not (eqb (getD room id 0) 0)
+-- the edge whose ids stand where it is said; its label stands elsewhere
+abbrev pub edgeOf : List ℕ → Sizes → EdgeAt → Edge
+edgeOf b z e = record {
+  label = 0;
+  sources = span b (bodyOf z) (e .first) (e .sources);
+  targets = span b (bodyOf z) (e .first + e .sources) (e .targets);
+}
 
--- the entries of ids that stay, and the pairs of which both ends stay
-abbrev pub staying : (ℕ → Bool) → List ℕ → List ℕ
-staying goes entries = keep (λ id. not (goes id)) entries
+-- the map is a row of the width of what was read
+abbrev pub mapOf : Sizes → Row
+mapOf z = rowAt 0 (z .width)
 
-abbrev pub stayingPairs : (ℕ → Bool) → List (ℕ × ℕ) → List (ℕ × ℕ)
-stayingPairs goes pairs = keep (λ p. not (goes (p .0)) && not (goes (p .1))) pairs
+-- the map of n nodes: where each goes, the highest number of the width if nowhere
+abbrev pub placesOf : ℕ → (ℕ → Bool) → ℕ → List ℕ
+placesOf width goes n = map (λ id. cond (goes id) (256 ^ width - 1) (newId goes id)) (range 0 n)
 
--- how many edges are left, and how many ports they have
-abbrev pub leftOf : List Edge → Left
-leftOf es = record { edges = length es; ports = length (edgeEntries es) }
-
--- the graph without its marked edges
-abbrev pub unmarkedEdges : List ℕ → Graph → Graph
-unmarkedEdges room g = withEdges (remaining (marked room) 0 (g .edges)) g
-
--- the map says where a node went; 65,535 is nowhere
-unfoldable pub place : List ℕ → ℕ → ℕ
-place table id = numberAt 2 table (id * 2)
-
-unfoldable pub dropped : List ℕ → ℕ → Bool
-dropped table id = eqb (place table id) 65535
-
--- entries of ids that stay, each with its new id
-abbrev pub carried : (ℕ → Bool) → (ℕ → ℕ) → List ℕ → List ℕ
-carried goes new entries = map new (staying goes entries)
-
-abbrev pub carriedEdge : (ℕ → Bool) → (ℕ → ℕ) → Edge → Edge
-carriedEdge goes new e = record { label = e .label; sources = carried goes new (e .sources); targets = carried goes new (e .targets) }
-
-abbrev pub carriedPairs : (ℕ → Bool) → (ℕ → ℕ) → List (ℕ × ℕ) → List (ℕ × ℕ)
-carriedPairs goes new pairs = map (λ p. (new (p .0), new (p .1))) (stayingPairs goes pairs)
-
--- the same by the map
-abbrev pub moved : List ℕ → List ℕ → List ℕ
-moved table = carried (dropped table) (place table)
-
-abbrev pub movedEdge : List ℕ → Edge → Edge
-movedEdge table = carriedEdge (dropped table) (place table)
-
-abbrev pub movedPairs : List ℕ → List (ℕ × ℕ) → List (ℕ × ℕ)
-movedPairs table = carriedPairs (dropped table) (place table)
-
-abbrev pub movedEdges : List ℕ → List Edge → List Edge
-movedEdges table es = map (movedEdge table) es
-
--- the map of n nodes of which these go
-abbrev pub placesOf : (ℕ → Bool) → ℕ → List ℕ
-placesOf goes n = map (whereTo form1 goes) (range 0 n)
+-- the room marks the nodes of a graph of these sizes that go, and the map has the new ids of the others
+pub record Mapped (z : Sizes) (room table : List ℕ) : Type 0 where
+  pub low : Low z
+  pub marks : z .nodes ≤ length room
+  pub held : Holds table (mapOf z) (z .nodes)
+  pub new : (i : ℕ) → i < z .nodes → marked room (z .nodes) i ≡ false → entry table (mapOf z) i ≡ newId (marked room (z .nodes)) i

@@ -2,51 +2,42 @@
 // open_hypergraph.rs. The ids that go are marked in the work room, one byte for each; a first pass counts what stays, a second one writes it.
 ghost use mathlib.Core.Path.{_≡_};
 ghost use mathlib.Core.Bool.{cond};
-ghost use Prim.Native.Nat.{ℕ, _+_, _*_, _/_, _<_, _≤_};
-ghost use mathlib.Core.List.{List, [], _∷_};
-ghost use lib.ListN.{length, getD, take, drop};
-ghost use lib.Seq.{sets};
-ghost use Rattle.le.specs.Le.{Below, bytes, row, numbers, numberAt};
+ghost use Prim.Native.Nat.{ℕ, _+_, _*_, _-_, _<_, _≤_, _^_};
+ghost use mathlib.Core.List.{[], _∷_, map as each};
+ghost use lib.ListN.{length};
+ghost use Rattle.le.specs.Le.{Below};
+ghost use Rattle.le.specs.Rows.{Holds, entry, span, puts};
 ghost use Rattle.graph.specs.Lists.{joined, among, paired, flat};
-ghost use Rattle.graph.specs.Graph.{Edge, Graph, edgeEntries, form1};
-ghost use Rattle.graph.specs.Form.{edgeBytes, encode};
-ghost use Rattle.graph.specs.Answer.{answered, lay, laid};
-ghost use Rattle.graph.specs.Read as graph;
-ghost use Rattle.graph.specs.Delete.{remaining, newId, whereTo, withoutNodes};
-ghost use Rattle.graph.specs.Calls.{inWorkRoom, onGraph, deleteEdgesStep, deleteNodesCall};
-ghost use Rattle.form.specs.Form.{sizesOf, reading, written};
-ghost use Rattle.form.specs.declared.Reading.the-variants as read;
-ghost use Rattle.delete.specs.Marks.{roomDeleteEdges, roomDeleteNodes, marked, staying, stayingPairs, leftOf, unmarkedEdges, place, moved, movedEdge, movedEdges, movedPairs, placesOf};
-ghost use Rattle.delete.specs.Writes.{edgeAt, EdgesAt, Put};
-ghost use Rattle.delete.specs.Deleting.{deleting};
+ghost use Rattle.graph.specs.Graph.{edgeEntries};
+ghost use Rattle.graph.specs.Form.{edgeRow, labelRow, body};
+ghost use Rattle.graph.specs.Versions.{fitting};
+ghost use Rattle.graph.specs.Delete.{remaining, newId, renamed, renamedEdge, renamedPairs, withoutNodes};
+ghost use Rattle.graph.specs.Calls.{deleteEdgesCall, deleteNodesCall};
+ghost use Rattle.form.specs.Form.{sizesOf, bodyOf, Gives, GivesMap};
+ghost use Rattle.form.specs.Stored.{graphOf, Stored};
+ghost use Rattle.write.specs.Write.{Put, Room, drawn};
+ghost use Rattle.delete.specs.Marks.{marked, unmarkedEdges, edgeOf, placesOf, Mapped};
+use form::EdgeAt;
+use form::Outcome;
+use form::Reading;
+use form::Sizes;
+use form::Step;
+use le::Row;
 
 // The work room that `delete_edges` is lent at least: a byte for each edge.
-pub const ROOM_DELETE_EDGES: usize = 2048;
+pub const ROOM_DELETE_EDGES: usize = graph::MAX_EDGES;
 
 // The work room that `delete_nodes` is lent at least: a byte for each node.
-pub const ROOM_DELETE_NODES: usize = 2048;
-
-// In the map: a node that went.
-const NOWHERE: u32 = 65535;
-
-// Takes the marks of the first n ids away.
-fn clear(room: &mut [u8], n: usize)
-    requires { ⌜ n ≤ length (now room) ⌝ }
-    ensures { λ _. ⌜ ((i : ℕ) → i < n → getD (now (room .exit)) i 0 ≡ 0) ⌝ }
-{
-    for i in 0..n {
-        room[i] = 0;
-    }
-}
+pub const ROOM_DELETE_NODES: usize = graph::MAX_NODES;
 
 // Of the first `count` ids, marks those in a list of n, and no others. Repeated ids count once.
-fn mark(room: &mut [u8], count: usize, ids: &[u8], n: usize)
-    requires { ⌜ (count ≤ length (now room)) × (n * 2 ≤ length (now ids)) × Below count (numbers 2 n (now ids)) ⌝ }
-    ensures { λ _. ⌜ ((i : ℕ) → i < count → marked (now (room .exit)) i ≡ among (numbers 2 n (now (ids .entry))) i) ⌝ }
+fn mark(room: &mut [u8], count: usize, ids: &[u8], r: Row, n: usize)
+    requires { ⌜ (count ≤ length (now room)) × Holds (now ids) r n × Below count (span (now ids) r 0 n) ⌝ }
+    ensures { λ _. ⌜ marked (now (room .exit)) count ≡ among (span (now (ids .entry)) r 0 n) ⌝ }
 {
-    clear(room, count);
+    le::clear(room, count);
     for k in 0..n {
-        let id = form::count_at(ids, k * form::WIDTH);
+        let id = le::number(ids, r, k);
         room[id] = 1;
     }
 }
@@ -54,481 +45,444 @@ fn mark(room: &mut [u8], count: usize, ids: &[u8], n: usize)
 // A number if the id stays, else 0.
 fn if_stays(room: &[u8], id: usize, x: usize) -> usize
     requires { ⌜ id < length (now room) ⌝ }
-    ensures { λ r. ⌜ r ≡ cond (marked (now (room .entry)) id) 0 x ⌝ }
+    ensures { λ r. ⌜ (r ≤ x) × ((n : ℕ) → id < n → r ≡ cond (marked (now (room .entry)) n id) 0 x) ⌝ }
 {
     if room[id] == 0 { x } else { 0 }
 }
 
-// Edges that are left, and their ports.
-struct Left {
-    edges: usize,
-    ports: usize,
+// How many of the first n ids stay.
+fn left(room: &[u8], n: usize) -> usize
+    requires { ⌜ n ≤ length (now room) ⌝ }
+    ensures { λ r. ⌜ r ≡ newId (marked (now (room .entry)) n) n ⌝ }
+{
+    let mut stay: usize = 0;
+    for i in 0..n {
+        stay = stay + if_stays(room, i, 1);
+    }
+    stay
 }
 
-// Counts the unmarked ones of the n edges that stand from a place on.
-fn edges_left(src: &[u8], start: usize, n: usize, room: &[u8]) -> Left
-    requires { ⌜ (n ≤ length (now room)) × ((es : List Edge) × (length es ≡ n) × EdgesAt (now src) start es) ⌝ }
-    ensures { λ r. ⌜ ((es : List Edge) → length es ≡ n → EdgesAt (now (src .entry)) start es → r ≡ leftOf (remaining (marked (now (room .entry))) 0 es)) ⌝ }
+// How many ports the unmarked edges have.
+fn ports_of_left(src: &[u8], z: Sizes, room: &[u8]) -> usize
+    requires { ⌜ Stored (now src) z × (z .edges ≤ length (now room)) ⌝ }
+    ensures { λ r. ⌜ r ≡ length (edgeEntries (remaining (marked (now (room .entry)) (z .edges)) 0 (graphOf (now (src .entry)) .edges))) ⌝ }
 {
-    let mut at = start;
-    let mut edges: usize = 0;
+    let body = form::body_row(z);
+    let mut k: usize = 0;
     let mut ports: usize = 0;
-    for i in 0..n {
-        let here = form::ports_at(src, at);
-        edges = edges + if_stays(room, i, 1);
-        ports = ports + if_stays(room, i, here);
-        at = at + (4 + here * form::WIDTH);
-    }
-    Left { edges, ports }
-}
-
-// The sizes of the graph without its marked edges.
-fn without_edges(src: &[u8], z: form::Sizes, room: &[u8]) -> form::Sizes
-    requires { ⌜ (reading (graph.read form1 (now src)) ≡ read.Sized z) × (z .edges ≤ length (now room)) ⌝ }
-    ensures { λ r. ⌜ ((g : Graph) → graph.read form1 (now (src .entry)) ≡ answered g → r ≡ sizesOf (unmarkedEdges (now (room .entry)) g)) ⌝ }
-{
-    let at = form::edges_at(z.nodes, z.edges);
-    let left = edges_left(src, at, z.edges, room);
-    form::Sizes {
-        nodes: z.nodes,
-        edges: left.edges,
-        ports: left.ports,
-        sources: z.sources,
-        targets: z.targets,
-        pairs: z.pairs,
-    }
-}
-
-// The label at a place, written if its id stays. Answers where the next one goes.
-fn put_left_label(src: &[u8], at: usize, room: &[u8], id: usize, out: &mut [u8], to: usize) -> usize
-    requires { ⌜ (at + 4 ≤ length (now src)) × (id < length (now room)) × (to + cond (marked (now room) id) 0 4 ≤ length (now out)) ⌝ }
-    ensures { λ r. ⌜ Put (now (out .entry)) to (cond (marked (now (room .entry)) id) [] (bytes 4 (numberAt 4 (now (src .entry)) at))) (now (out .exit)) r ⌝ }
-{
-    if room[id] != 0 {
-        return to;
-    }
-    le::put4(out, to, le::get4(src, at));
-    to + 4
-}
-
-// Of n labels that stand from a place on, those of unmarked ids, in order.
-fn put_left_labels(
-    src: &[u8],
-    at: usize,
-    n: usize,
-    room: &[u8],
-    out: &mut [u8],
-    first: usize,
-) -> usize
-    requires { ⌜ (at + n * 4 ≤ length (now src)) × (n ≤ length (now room)) × (first + length (row 4 (remaining (marked (now room)) 0 (numbers 4 n (drop at (now src))))) ≤ length (now out)) ⌝ }
-    ensures { λ r. ⌜ Put (now (out .entry)) first (row 4 (remaining (marked (now (room .entry))) 0 (numbers 4 n (drop at (now (src .entry)))))) (now (out .exit)) r ⌝ }
-{
-    let mut to = first;
-    for i in 0..n {
-        to = put_left_label(src, at + i * 4, room, i, out, to);
-    }
-    to
-}
-
-// The bytes of an edge, written if it stays.
-fn put_left_edge(
-    src: &[u8],
-    at: usize,
-    n: usize,
-    room: &[u8],
-    id: usize,
-    out: &mut [u8],
-    to: usize,
-) -> usize
-    requires { ⌜ (at + n ≤ length (now src)) × (id < length (now room)) × (to + cond (marked (now room) id) 0 n ≤ length (now out)) ⌝ }
-    ensures { λ r. ⌜ Put (now (out .entry)) to (cond (marked (now (room .entry)) id) [] (take n (drop at (now (src .entry))))) (now (out .exit)) r ⌝ }
-{
-    if room[id] != 0 {
-        return to;
-    }
-    le::copy(out, to, src, at, n);
-    to + n
-}
-
-// Of the n edges that stand from a place on, the unmarked ones, in order.
-fn put_left_edges(
-    src: &[u8],
-    start: usize,
-    n: usize,
-    room: &[u8],
-    out: &mut [u8],
-    first: usize,
-) -> usize
-    requires { ⌜ (n ≤ length (now room)) × ((es : List Edge) × (length es ≡ n) × EdgesAt (now src) start es × (first + length (joined (edgeBytes form1) (remaining (marked (now room)) 0 es)) ≤ length (now out))) ⌝ }
-    ensures { λ r. ⌜ ((es : List Edge) → length es ≡ n → EdgesAt (now (src .entry)) start es → Put (now (out .entry)) first (joined (edgeBytes form1) (remaining (marked (now (room .entry))) 0 es)) (now (out .exit)) r) ⌝ }
-{
-    let mut at = start;
-    let mut to = first;
-    for i in 0..n {
-        let bytes = 4 + form::ports_at(src, at) * form::WIDTH;
-        to = put_left_edge(src, at, bytes, room, i, out, to);
-        at = at + bytes;
-    }
-    to
-}
-
-// The graph of sizes z without its marked edges, which has sizes y, written.
-fn put_without_edges(src: &[u8], z: form::Sizes, y: form::Sizes, room: &[u8], out: &mut [u8])
-    requires { ⌜ (reading (graph.read form1 (now src)) ≡ read.Sized z) × (z .edges ≤ length (now room)) ⌝ }
-    requires { ⌜ ((g : Graph) → graph.read form1 (now src) ≡ answered g → (y ≡ sizesOf (unmarkedEdges (now room) g)) × (length (encode form1 (unmarkedEdges (now room) g)) ≤ length (now out))) ⌝ }
-    ensures { λ _. ⌜ ((g : Graph) → graph.read form1 (now (src .entry)) ≡ answered g → now (out .exit) ≡ lay (encode form1 (unmarkedEdges (now (room .entry)) g)) (now (out .entry))) ⌝ }
-{
-    form::put_header(out, z.nodes, y.edges, z.sources, z.targets, z.pairs);
-    let labels = graph::HEADER_BYTES + z.nodes * 4;
-    le::copy(
-        out,
-        graph::HEADER_BYTES,
-        src,
-        graph::HEADER_BYTES,
-        z.nodes * 4,
-    );
-    let edges = put_left_labels(src, labels, z.edges, room, out, labels);
-    let lists = put_left_edges(
-        src,
-        form::edges_at(z.nodes, z.edges),
-        z.edges,
-        room,
-        out,
-        edges,
-    );
-    let at = form::lists_at(z.nodes, z.edges, z.ports);
-    le::copy(
-        out,
-        lists,
-        src,
-        at,
-        (z.sources + (z.targets + 2 * z.pairs)) * form::WIDTH,
-    );
-}
-
-// The graph without the listed edges; the rest stay in order.
-pub fn delete_edges(src: &[u8], ids: &[u8], out: &mut [u8], room: &mut [u8]) -> form::Written
-    ensures { λ r. ⌜ r ≡ written (inWorkRoom roomDeleteEdges (length (now (room .entry))) (onGraph form1 (now (src .entry)) (length (now (out .entry))) (deleteEdgesStep form1 (now (ids .entry))))) ⌝ }
-    ensures { λ r. ⌜ now (out .exit) ≡ laid (λ m. m .form) (inWorkRoom roomDeleteEdges (length (now (room .entry))) (onGraph form1 (now (src .entry)) (length (now (out .entry))) (deleteEdgesStep form1 (now (ids .entry))))) (now (out .entry)) ⌝ }
-{
-    if room.len() < ROOM_DELETE_EDGES {
-        return form::Written::Refused(form::Refusal { no: 10 });
-    }
-    let graph = form::read(src);
-    let form::Reading::Sized(z) = graph else {
-        return form::Written::Refused(graph.refusal());
-    };
-    let list = form::id_list(ids, z.edges);
-    let form::Listed::Entries(n) = list else {
-        return form::Written::Refused(list.refusal());
-    };
-    mark(room, z.edges, ids, n);
-    let y = without_edges(src, z, room);
-    let fit = form::result_size(y, out.len());
-    let form::Fit::Bytes(bytes) = fit else {
-        return form::Written::Refused(fit.refusal());
-    };
-    put_without_edges(src, z, y, room, out);
-    form::Written::Done { bytes, id: 0 }
-}
-
-// How many of n ids that stand from a place on stay.
-fn ids_left(src: &[u8], at: usize, n: usize, room: &[u8]) -> usize
-    requires { ⌜ (at + n * 2 ≤ length (now src)) × Below (length (now room)) (numbers 2 n (drop at (now src))) ⌝ }
-    ensures { λ r. ⌜ r ≡ length (staying (marked (now (room .entry))) (numbers 2 n (drop at (now (src .entry))))) ⌝ }
-{
-    let mut left: usize = 0;
-    for k in 0..n {
-        let id = form::count_at(src, at + k * form::WIDTH);
-        left = left + if_stays(room, id, 1);
-    }
-    left
-}
-
-// How many ports of the n edges that stand from a place on stay.
-fn ports_left(src: &[u8], start: usize, n: usize, room: &[u8]) -> usize
-    requires { ⌜ ((es : List Edge) × (length es ≡ n) × EdgesAt (now src) start es × Below (length (now room)) (edgeEntries es)) ⌝ }
-    ensures { λ r. ⌜ ((es : List Edge) → length es ≡ n → EdgesAt (now (src .entry)) start es → r ≡ length (staying (marked (now (room .entry))) (edgeEntries es))) ⌝ }
-{
-    let mut at = start;
-    let mut ports: usize = 0;
-    for i in 0..n {
-        let here = form::ports_at(src, at);
-        ports = ports + ids_left(src, at + 4, here, room);
-        at = at + (4 + here * form::WIDTH);
+    for i in 0..z.edges {
+        let e = form::edge_at(src, body, k);
+        ports = ports + if_stays(room, i, e.sources + e.targets);
+        k = e.end;
     }
     ports
 }
 
-// 1 if both ends of the pair at a place stay, else 0.
-fn pair_left(src: &[u8], at: usize, room: &[u8]) -> usize
-    requires { ⌜ (at + 4 ≤ length (now src)) × (numberAt 2 (now src) at < length (now room)) × (numberAt 2 (now src) (at + 2) < length (now room)) ⌝ }
-    ensures { λ r. ⌜ r ≡ length (stayingPairs (marked (now (room .entry))) ((numberAt 2 (now (src .entry)) at, numberAt 2 (now (src .entry)) (at + 2)) ∷ [])) ⌝ }
+// Of n labels from number k on, those of unmarked ids, in order. Answers where the next one goes.
+fn put_left_labels(
+    src: &[u8],
+    from: Row,
+    k: usize,
+    n: usize,
+    room: &[u8],
+    out: &mut [u8],
+    to: Row,
+    first: usize,
+) -> usize
+    requires { ⌜ Holds (now src) from (k + n) × (n ≤ length (now room)) × Holds (now out) to (first + length (remaining (marked (now room) n) 0 (span (now src) from k n))) ⌝ }
+    ensures { λ r. ⌜ Put (now (out .entry)) to first (remaining (marked (now (room .entry)) n) 0 (span (now (src .entry)) from k n)) (now (out .exit)) r ⌝ }
 {
-    let a = form::count_at(src, at);
-    let b = form::count_at(src, at + form::WIDTH);
-    if room[a] != 0 {
-        return 0;
-    }
-    if_stays(room, b, 1)
-}
-
-// How many of n pairs that stand from a place on stay.
-fn pairs_left(src: &[u8], at: usize, n: usize, room: &[u8]) -> usize
-    requires { ⌜ (at + n * 4 ≤ length (now src)) × Below (length (now room)) (numbers 2 (2 * n) (drop at (now src))) ⌝ }
-    ensures { λ r. ⌜ r ≡ length (stayingPairs (marked (now (room .entry))) (paired (numbers 2 (2 * n) (drop at (now (src .entry)))))) ⌝ }
-{
-    let mut left: usize = 0;
-    for k in 0..n {
-        left = left + pair_left(src, at + k * 4, room);
-    }
-    left
-}
-
-// How many of the first n nodes stay.
-fn nodes_left(room: &[u8], n: usize) -> usize
-    requires { ⌜ n ≤ length (now room) ⌝ }
-    ensures { λ r. ⌜ r ≡ newId (marked (now (room .entry))) n ⌝ }
-{
-    let mut left: usize = 0;
+    let mut j = first;
     for i in 0..n {
-        left = left + if_stays(room, i, 1);
+        let one = if_stays(room, i, 1);
+        le::copy_numbers(out, to, j, src, from, k + i, one);
+        j = j + one;
     }
-    left
+    j
+}
+
+// The unmarked edges, in order.
+fn put_left_edges(src: &[u8], z: Sizes, room: &[u8], out: &mut [u8], to: Row) -> usize
+    requires { ⌜ Stored (now src) z × (z .edges ≤ length (now room)) × Holds (now out) to (length (joined edgeRow (remaining (marked (now room) (z .edges)) 0 (graphOf (now src) .edges)))) ⌝ }
+    ensures { λ r. ⌜ Put (now (out .entry)) to 0 (joined edgeRow (remaining (marked (now (room .entry)) (z .edges)) 0 (graphOf (now (src .entry)) .edges))) (now (out .exit)) r ⌝ }
+{
+    let body = form::body_row(z);
+    let mut k: usize = 0;
+    let mut j: usize = 0;
+    for i in 0..z.edges {
+        let e = form::edge_at(src, body, k);
+        let n = if_stays(room, i, e.end - k);
+        le::copy_numbers(out, to, j, src, body, k, n);
+        j = j + n;
+        k = e.end;
+    }
+    j
+}
+
+// The sizes of the graph without its marked edges.
+fn without_edges(src: &[u8], z: Sizes, room: &[u8]) -> Sizes
+    requires { ⌜ Stored (now src) z × (z .edges ≤ length (now room)) ⌝ }
+    ensures { λ y. ⌜ y ≡ sizesOf (fitting (unmarkedEdges (now (room .entry)) (z .edges) (graphOf (now (src .entry))))) (unmarkedEdges (now (room .entry)) (z .edges) (graphOf (now (src .entry)))) ⌝ }
+{
+    write::sized(
+        z.nodes,
+        left(room, z.edges),
+        ports_of_left(src, z, room),
+        z.sources,
+        z.targets,
+        z.pairs,
+    )
+}
+
+// The graph of sizes z without its marked edges, which has sizes y, written.
+fn put_without_edges(src: &[u8], z: Sizes, y: Sizes, room: &[u8], out: &mut [u8])
+    requires { ⌜ Stored (now src) z × (z .edges ≤ length (now room)) × Room (now out) y ⌝ }
+    requires { ⌜ y ≡ sizesOf (fitting (unmarkedEdges (now room) (z .edges) (graphOf (now src)))) (unmarkedEdges (now room) (z .edges) (graphOf (now src))) ⌝ }
+    ensures { λ _. ⌜ now (out .exit) ≡ drawn (now (out .entry)) y (labelRow (unmarkedEdges (now (room .entry)) (z .edges) (graphOf (now (src .entry))))) (body (unmarkedEdges (now (room .entry)) (z .edges) (graphOf (now (src .entry))))) ⌝ }
+{
+    write::put_header(out, y);
+    let labels = form::label_row(z);
+    let new_labels = form::label_row(y);
+    le::copy_numbers(out, new_labels, 0, src, labels, 0, z.nodes);
+    put_left_labels(
+        src,
+        labels,
+        z.nodes,
+        z.edges,
+        room,
+        out,
+        new_labels,
+        z.nodes,
+    );
+    let new_body = form::body_row(y);
+    let lists = put_left_edges(src, z, room, out, new_body);
+    let n = z.sources + (z.targets + 2 * z.pairs);
+    le::copy_numbers(
+        out,
+        new_body,
+        lists,
+        src,
+        form::body_row(z),
+        2 * z.edges + z.ports,
+        n,
+    );
+}
+
+// The graph without the listed edges; the rest stay in order.
+pub fn delete_edges(src: &[u8], ids: &[u8], out: &mut [u8], room: &mut [u8]) -> Outcome
+    ensures { λ r. ⌜ Gives (deleteEdgesCall (now (src .entry)) (now (ids .entry)) (length (now (out .entry))) (length (now (room .entry)))) r (now (out .entry)) (now (out .exit)) ⌝ }
+{
+    let lent = read::work_room(room.len(), ROOM_DELETE_EDGES);
+    let Step::Number(_) = lent else {
+        return Outcome::Refused(lent.refusal());
+    };
+    let graph = read::read(src);
+    let Reading::Sized(z) = graph else {
+        return Outcome::Refused(graph.refusal());
+    };
+    let list = read::id_list(ids, z.width, z.edges);
+    let Step::Number(n) = list else {
+        return Outcome::Refused(list.refusal());
+    };
+    let r = Row {
+        at: 0,
+        width: z.width,
+    };
+    mark(room, z.edges, ids, r, n);
+    let y = without_edges(src, z, room);
+    let size = write::result_size(y, out.len());
+    let Step::Number(bytes) = size else {
+        return Outcome::Refused(size.refusal());
+    };
+    put_without_edges(src, z, y, room, out);
+    Outcome::Done { a: bytes, b: 0 }
+}
+
+// How many of n ids from number k of a row on stay.
+fn ids_left(src: &[u8], r: Row, k: usize, n: usize, room: &[u8]) -> usize
+    requires { ⌜ Holds (now src) r (k + n) × Below (length (now room)) (span (now src) r k n) ⌝ }
+    ensures { λ stay. ⌜ (stay ≤ n) × ((m : ℕ) → Below m (span (now (src .entry)) r k n) → stay ≡ length (renamed (marked (now (room .entry)) m) (span (now (src .entry)) r k n))) ⌝ }
+{
+    let mut stay: usize = 0;
+    for i in 0..n {
+        let id = le::number(src, r, k + i);
+        stay = stay + if_stays(room, id, 1);
+    }
+    stay
+}
+
+// How many ports of the edges stay.
+fn ports_left(src: &[u8], z: Sizes, room: &[u8]) -> usize
+    requires { ⌜ Stored (now src) z × (z .nodes ≤ length (now room)) ⌝ }
+    ensures { λ r. ⌜ r ≡ length (edgeEntries (each (renamedEdge (marked (now (room .entry)) (z .nodes))) (graphOf (now (src .entry)) .edges))) ⌝ }
+{
+    let body = form::body_row(z);
+    let mut k: usize = 0;
+    let mut ports: usize = 0;
+    for i in 0..z.edges {
+        let e = form::edge_at(src, body, k);
+        ports = ports + ids_left(src, body, e.first, e.sources + e.targets, room);
+        k = e.end;
+    }
+    ports
+}
+
+// 1 if both ends of the pair at number k stay, else 0.
+fn pair_left(src: &[u8], r: Row, k: usize, room: &[u8]) -> usize
+    requires { ⌜ Holds (now src) r (k + 2) × Below (length (now room)) (span (now src) r k 2) ⌝ }
+    ensures { λ stay. ⌜ (stay ≤ 1) × ((m : ℕ) → Below m (span (now (src .entry)) r k 2) → stay ≡ length (renamedPairs (marked (now (room .entry)) m) (paired (span (now (src .entry)) r k 2)))) ⌝ }
+{
+    let a = le::number(src, r, k);
+    let b = le::number(src, r, k + 1);
+    if_stays(room, a, if_stays(room, b, 1))
+}
+
+// How many of the n pairs from number k of a row on stay.
+fn pairs_left(src: &[u8], r: Row, k: usize, n: usize, room: &[u8]) -> usize
+    requires { ⌜ Holds (now src) r (k + 2 * n) × Below (length (now room)) (span (now src) r k (2 * n)) ⌝ }
+    ensures { λ stay. ⌜ ((m : ℕ) → Below m (span (now (src .entry)) r k (2 * n)) → stay ≡ length (renamedPairs (marked (now (room .entry)) m) (paired (span (now (src .entry)) r k (2 * n))))) ⌝ }
+{
+    let mut stay: usize = 0;
+    for i in 0..n {
+        stay = stay + pair_left(src, r, k + 2 * i, room);
+    }
+    stay
 }
 
 // The sizes of the graph without its marked nodes.
-fn without_nodes(src: &[u8], z: form::Sizes, room: &[u8]) -> form::Sizes
-    requires { ⌜ (reading (graph.read form1 (now src)) ≡ read.Sized z) × (z .nodes ≤ length (now room)) ⌝ }
-    ensures { λ r. ⌜ ((g : Graph) → graph.read form1 (now (src .entry)) ≡ answered g → r ≡ sizesOf (withoutNodes (marked (now (room .entry))) g)) ⌝ }
+fn without_nodes(src: &[u8], z: Sizes, room: &[u8]) -> Sizes
+    requires { ⌜ Stored (now src) z × (z .nodes ≤ length (now room)) ⌝ }
+    ensures { λ y. ⌜ y ≡ sizesOf (fitting (withoutNodes (marked (now (room .entry)) (z .nodes)) (graphOf (now (src .entry))))) (withoutNodes (marked (now (room .entry)) (z .nodes)) (graphOf (now (src .entry)))) ⌝ }
 {
-    let edges = form::edges_at(z.nodes, z.edges);
-    let sources = form::lists_at(z.nodes, z.edges, z.ports);
-    let targets = sources + z.sources * form::WIDTH;
-    let pairs = sources + (z.sources + z.targets) * form::WIDTH;
-    form::Sizes {
-        nodes: nodes_left(room, z.nodes),
-        edges: z.edges,
-        ports: ports_left(src, edges, z.edges, room),
-        sources: ids_left(src, sources, z.sources, room),
-        targets: ids_left(src, targets, z.targets, room),
-        pairs: pairs_left(src, pairs, z.pairs, room),
-    }
+    let body = form::body_row(z);
+    let lists = 2 * z.edges + z.ports;
+    let sources = ids_left(src, body, lists, z.sources, room);
+    let targets = ids_left(src, body, lists + z.sources, z.targets, room);
+    let pairs = pairs_left(src, body, lists + z.sources + z.targets, z.pairs, room);
+    write::sized(
+        left(room, z.nodes),
+        z.edges,
+        ports_left(src, z, room),
+        sources,
+        targets,
+        pairs,
+    )
 }
 
-// Where a node goes: its entry of the map, where `next` of the nodes before it stay. Answers how many stay with it.
-fn put_place(room: &[u8], id: usize, map: &mut [u8], next: usize) -> usize
-    requires { ⌜ (id < length (now room)) × (id * 2 + 2 ≤ length (now map)) × (next < 65536) ⌝ }
-    ensures { λ r. ⌜ (now (map .exit) ≡ sets (now (map .entry)) (id * 2) (bytes 2 (cond (marked (now (room .entry)) id) 65535 next))) × (r ≡ next + cond (marked (now (room .entry)) id) 0 1) ⌝ }
+// Where a node goes: its number of the map, where `next` of the nodes before it stay. Answers how many stay with it.
+fn put_place(room: &[u8], id: usize, map: &mut [u8], r: Row, next: usize) -> usize
+    requires { ⌜ (id < length (now room)) × Holds (now map) r (id + 1) × (next < 2 ^ 32) ⌝ }
+    ensures { λ k. ⌜ ((n : ℕ) → id < n → (now (map .exit) ≡ puts (now (map .entry)) r id (cond (marked (now (room .entry)) n id) (256 ^ r .width - 1) next ∷ [])) × (k ≡ next + cond (marked (now (room .entry)) n id) 0 1)) ⌝ }
 {
     if room[id] != 0 {
-        le::put2(map, id * form::WIDTH, NOWHERE);
+        le::put_number(map, r, id, form::highest(r.width));
         return next;
     }
-    le::put2(map, id * form::WIDTH, next as u32);
+    le::put_number(map, r, id, next);
     next + 1
 }
 
 // The map of n nodes.
-fn put_map(room: &[u8], n: usize, map: &mut [u8])
-    requires { ⌜ (n ≤ length (now room)) × (n ≤ 2048) × (n * 2 ≤ length (now map)) ⌝ }
-    ensures { λ _. ⌜ now (map .exit) ≡ sets (now (map .entry)) 0 (row 2 (placesOf (marked (now (room .entry))) n)) ⌝ }
+fn put_map(room: &[u8], n: usize, map: &mut [u8], r: Row)
+    requires { ⌜ (n ≤ length (now room)) × (n < 2 ^ 32) × Holds (now map) r n ⌝ }
+    ensures { λ _. ⌜ now (map .exit) ≡ puts (now (map .entry)) r 0 (placesOf (r .width) (marked (now (room .entry)) n) n) ⌝ }
 {
     let mut next: usize = 0;
     for i in 0..n {
-        next = put_place(room, i, map, next);
+        next = put_place(room, i, map, r, next);
     }
 }
 
-// A node's new id, written if it stays.
-fn put_moved(map: &[u8], id: usize, out: &mut [u8], to: usize) -> usize
-    requires { ⌜ (id < length (now map) / 2) × (to + length (row 2 (moved (now map) (id ∷ []))) ≤ length (now out)) ⌝ }
-    ensures { λ r. ⌜ Put (now (out .entry)) to (row 2 (moved (now (map .entry)) (id ∷ []))) (now (out .exit)) r ⌝ }
-{
-    let v = le::get2(map, id * form::WIDTH);
-    if v == NOWHERE {
-        return to;
-    }
-    le::put2(out, to, v);
-    to + form::WIDTH
-}
-
-// The new ids of n nodes whose ids stand from a place on, of those that stay.
-fn put_moved_ids(src: &[u8], at: usize, n: usize, map: &[u8], out: &mut [u8], first: usize) -> usize
-    requires { ⌜ (at + n * 2 ≤ length (now src)) × Below (length (now map) / 2) (numbers 2 n (drop at (now src))) × (first + length (row 2 (moved (now map) (numbers 2 n (drop at (now src))))) ≤ length (now out)) ⌝ }
-    ensures { λ r. ⌜ Put (now (out .entry)) first (row 2 (moved (now (map .entry)) (numbers 2 n (drop at (now (src .entry)))))) (now (out .exit)) r ⌝ }
-{
-    let mut to = first;
-    for k in 0..n {
-        let id = form::count_at(src, at + k * form::WIDTH);
-        to = put_moved(map, id, out, to);
-    }
-    to
-}
-
-// The edge at a place with its new ids. Its counts are written last, since the lists tell them.
-fn put_moved_edge(src: &[u8], at: usize, map: &[u8], out: &mut [u8], to: usize) -> usize
-    requires { ⌜ (at + 4 + (numberAt 2 (now src) at + numberAt 2 (now src) (at + 2)) * 2 ≤ length (now src)) × Below (length (now map) / 2) (edgeAt (now src) at .sources) × Below (length (now map) / 2) (edgeAt (now src) at .targets) × (to + length (edgeBytes form1 (movedEdge (now map) (edgeAt (now src) at))) ≤ length (now out)) ⌝ }
-    ensures { λ r. ⌜ Put (now (out .entry)) to (edgeBytes form1 (movedEdge (now (map .entry)) (edgeAt (now (src .entry)) at))) (now (out .exit)) r ⌝ }
-{
-    let sources = form::count_at(src, at);
-    let targets = form::count_at(src, at + form::WIDTH);
-    let middle = put_moved_ids(src, at + 4, sources, map, out, to + 4);
-    let end = put_moved_ids(
-        src,
-        at + 4 + sources * form::WIDTH,
-        targets,
-        map,
-        out,
-        middle,
-    );
-    form::put_two(
-        out,
-        to,
-        (middle - (to + 4)) / form::WIDTH,
-        (end - middle) / form::WIDTH,
-    );
-    end
-}
-
-// The n edges that stand from a place on, with their new ids.
-fn put_moved_edges(
-    src: &[u8],
-    start: usize,
-    n: usize,
-    map: &[u8],
-    out: &mut [u8],
-    first: usize,
-) -> usize
-    requires { ⌜ ((es : List Edge) × (length es ≡ n) × EdgesAt (now src) start es × Below (length (now map) / 2) (edgeEntries es) × (first + length (joined (edgeBytes form1) (movedEdges (now map) es)) ≤ length (now out))) ⌝ }
-    ensures { λ r. ⌜ ((es : List Edge) → length es ≡ n → EdgesAt (now (src .entry)) start es → Put (now (out .entry)) first (joined (edgeBytes form1) (movedEdges (now (map .entry)) es)) (now (out .exit)) r) ⌝ }
-{
-    let mut at = start;
-    let mut to = first;
-    for i in 0..n {
-        let here = form::ports_at(src, at);
-        to = put_moved_edge(src, at, map, out, to);
-        at = at + (4 + here * form::WIDTH);
-    }
-    to
-}
-
-// The pair at a place with its new ids, written if both ends stay.
-fn put_moved_pair(src: &[u8], at: usize, map: &[u8], out: &mut [u8], to: usize) -> usize
-    requires { ⌜ (at + 4 ≤ length (now src)) × (numberAt 2 (now src) at < length (now map) / 2) × (numberAt 2 (now src) (at + 2) < length (now map) / 2) × (to + length (row 2 (flat (movedPairs (now map) ((numberAt 2 (now src) at, numberAt 2 (now src) (at + 2)) ∷ [])))) ≤ length (now out)) ⌝ }
-    ensures { λ r. ⌜ Put (now (out .entry)) to (row 2 (flat (movedPairs (now (map .entry)) ((numberAt 2 (now (src .entry)) at, numberAt 2 (now (src .entry)) (at + 2)) ∷ [])))) (now (out .exit)) r ⌝ }
-{
-    let v = form::count_at(map, form::count_at(src, at) * form::WIDTH);
-    let w = form::count_at(map, form::count_at(src, at + form::WIDTH) * form::WIDTH);
-    if v == NOWHERE as usize {
-        return to;
-    }
-    if w == NOWHERE as usize {
-        return to;
-    }
-    form::put_two(out, to, v, w);
-    to + 4
-}
-
-// The n pairs that stand from a place on, with their new ids, of those that stay.
-fn put_moved_pairs(
-    src: &[u8],
-    at: usize,
-    n: usize,
-    map: &[u8],
-    out: &mut [u8],
-    first: usize,
-) -> usize
-    requires { ⌜ (at + n * 4 ≤ length (now src)) × Below (length (now map) / 2) (numbers 2 (2 * n) (drop at (now src))) × (first + length (row 2 (flat (movedPairs (now map) (paired (numbers 2 (2 * n) (drop at (now src))))))) ≤ length (now out)) ⌝ }
-    ensures { λ r. ⌜ Put (now (out .entry)) first (row 2 (flat (movedPairs (now (map .entry)) (paired (numbers 2 (2 * n) (drop at (now (src .entry)))))))) (now (out .exit)) r ⌝ }
-{
-    let mut to = first;
-    for k in 0..n {
-        to = put_moved_pair(src, at + k * 4, map, out, to);
-    }
-    to
-}
-
-// The graph of sizes z without its marked nodes, which has sizes y, written by the map of the marks.
-fn put_without_nodes(
-    src: &[u8],
-    z: form::Sizes,
-    y: form::Sizes,
+// A node's new id, written if it stays. Answers where the next one goes.
+fn put_moved(
+    id: usize,
+    z: Sizes,
     room: &[u8],
     map: &[u8],
     out: &mut [u8],
-)
-    requires { ⌜ (reading (graph.read form1 (now src)) ≡ read.Sized z) × (z .nodes ≤ length (now room)) × (z .nodes * 2 ≤ length (now map)) ⌝ }
-    requires { ⌜ ((i : ℕ) → i < z .nodes → place (now map) i ≡ whereTo form1 (marked (now room)) i) ⌝ }
-    requires { ⌜ ((g : Graph) → graph.read form1 (now src) ≡ answered g → (y ≡ sizesOf (withoutNodes (marked (now room)) g)) × (length (encode form1 (withoutNodes (marked (now room)) g)) ≤ length (now out))) ⌝ }
-    ensures { λ _. ⌜ ((g : Graph) → graph.read form1 (now (src .entry)) ≡ answered g → now (out .exit) ≡ lay (encode form1 (withoutNodes (marked (now (room .entry))) g)) (now (out .entry))) ⌝ }
+    to: Row,
+    j: usize,
+) -> usize
+    requires { ⌜ Mapped z (now room) (now map) × (id < z .nodes) × Holds (now out) to (j + length (renamed (marked (now room) (z .nodes)) (id ∷ []))) ⌝ }
+    ensures { λ r. ⌜ Put (now (out .entry)) to j (renamed (marked (now (room .entry)) (z .nodes)) (id ∷ [])) (now (out .exit)) r ⌝ }
 {
-    form::put_header(out, y.nodes, z.edges, y.sources, y.targets, y.pairs);
-    let labels = put_left_labels(
+    if room[id] != 0 {
+        return j;
+    }
+    let r = Row {
+        at: 0,
+        width: z.width,
+    };
+    le::put_number(out, to, j, le::number(map, r, id));
+    j + 1
+}
+
+// The new ids of n nodes whose ids stand from number k on, of those that stay.
+fn put_moved_ids(
+    src: &[u8],
+    z: Sizes,
+    k: usize,
+    n: usize,
+    room: &[u8],
+    map: &[u8],
+    out: &mut [u8],
+    to: Row,
+    first: usize,
+) -> usize
+    requires { ⌜ Mapped z (now room) (now map) × Holds (now src) (bodyOf z) (k + n) × Below (z .nodes) (span (now src) (bodyOf z) k n) × Holds (now out) to (first + length (renamed (marked (now room) (z .nodes)) (span (now src) (bodyOf z) k n))) ⌝ }
+    ensures { λ r. ⌜ Put (now (out .entry)) to first (renamed (marked (now (room .entry)) (z .nodes)) (span (now (src .entry)) (bodyOf z) k n)) (now (out .exit)) r ⌝ }
+{
+    let body = form::body_row(z);
+    let mut j = first;
+    for i in 0..n {
+        let id = le::number(src, body, k + i);
+        j = put_moved(id, z, room, map, out, to, j);
+    }
+    j
+}
+
+// An edge with its new ids. Its counts are written last, since the lists tell them.
+fn put_moved_edge(
+    src: &[u8],
+    z: Sizes,
+    e: EdgeAt,
+    room: &[u8],
+    map: &[u8],
+    out: &mut [u8],
+    to: Row,
+    j: usize,
+) -> usize
+    requires { ⌜ Mapped z (now room) (now map) × Holds (now src) (bodyOf z) (e .first + e .sources + e .targets) × (e .sources + e .targets < 2 ^ 32) ⌝ }
+    requires { ⌜ Below (z .nodes) (edgeOf (now src) z e .sources) × Below (z .nodes) (edgeOf (now src) z e .targets) × Holds (now out) to (j + length (edgeRow (renamedEdge (marked (now room) (z .nodes)) (edgeOf (now src) z e)))) ⌝ }
+    ensures { λ r. ⌜ Put (now (out .entry)) to j (edgeRow (renamedEdge (marked (now (room .entry)) (z .nodes)) (edgeOf (now (src .entry)) z e))) (now (out .exit)) r ⌝ }
+{
+    let middle = put_moved_ids(src, z, e.first, e.sources, room, map, out, to, j + 2);
+    let end = put_moved_ids(
         src,
-        graph::HEADER_BYTES,
-        z.nodes,
+        z,
+        e.first + e.sources,
+        e.targets,
         room,
+        map,
         out,
-        graph::HEADER_BYTES,
+        to,
+        middle,
     );
-    le::copy(
-        out,
-        labels,
-        src,
-        graph::HEADER_BYTES + z.nodes * 4,
-        z.edges * 4,
-    );
-    let edges = form::edges_at(z.nodes, z.edges);
-    let lists = form::lists_at(z.nodes, z.edges, z.ports);
+    write::put_two(out, to, j, middle - (j + 2), end - middle);
+    end
+}
+
+// The edges with their new ids.
+fn put_moved_edges(src: &[u8], z: Sizes, room: &[u8], map: &[u8], out: &mut [u8], to: Row) -> usize
+    requires { ⌜ Stored (now src) z × Mapped z (now room) (now map) × Holds (now out) to (length (joined edgeRow (each (renamedEdge (marked (now room) (z .nodes))) (graphOf (now src) .edges)))) ⌝ }
+    ensures { λ r. ⌜ Put (now (out .entry)) to 0 (joined edgeRow (each (renamedEdge (marked (now (room .entry)) (z .nodes))) (graphOf (now (src .entry)) .edges))) (now (out .exit)) r ⌝ }
+{
+    let body = form::body_row(z);
+    let mut k: usize = 0;
+    let mut j: usize = 0;
+    for i in 0..z.edges {
+        let e = form::edge_at(src, body, k);
+        let next = e.end;
+        j = put_moved_edge(src, z, e, room, map, out, to, j);
+        k = next;
+    }
+    j
+}
+
+// The n pairs from number k on, with their new ids, of those of which both ends stay.
+fn put_moved_pairs(
+    src: &[u8],
+    z: Sizes,
+    k: usize,
+    n: usize,
+    room: &[u8],
+    map: &[u8],
+    out: &mut [u8],
+    to: Row,
+    first: usize,
+) -> usize
+    requires { ⌜ Mapped z (now room) (now map) × Holds (now src) (bodyOf z) (k + 2 * n) × Below (z .nodes) (span (now src) (bodyOf z) k (2 * n)) × Holds (now out) to (first + length (flat (renamedPairs (marked (now room) (z .nodes)) (paired (span (now src) (bodyOf z) k (2 * n)))))) ⌝ }
+    ensures { λ r. ⌜ Put (now (out .entry)) to first (flat (renamedPairs (marked (now (room .entry)) (z .nodes)) (paired (span (now (src .entry)) (bodyOf z) k (2 * n))))) (now (out .exit)) r ⌝ }
+{
+    let body = form::body_row(z);
+    let mut j = first;
+    for i in 0..n {
+        let at = k + 2 * i;
+        let stay = pair_left(src, body, at, room);
+        j = put_moved_ids(src, z, at, 2 * stay, room, map, out, to, j);
+    }
+    j
+}
+
+// The graph of sizes z without its marked nodes, which has sizes y, written by the map of the marks.
+fn put_without_nodes(src: &[u8], z: Sizes, y: Sizes, room: &[u8], map: &[u8], out: &mut [u8])
+    requires { ⌜ Stored (now src) z × Mapped z (now room) (now map) × Room (now out) y ⌝ }
+    requires { ⌜ y ≡ sizesOf (fitting (withoutNodes (marked (now room) (z .nodes)) (graphOf (now src)))) (withoutNodes (marked (now room) (z .nodes)) (graphOf (now src))) ⌝ }
+    ensures { λ _. ⌜ now (out .exit) ≡ drawn (now (out .entry)) y (labelRow (withoutNodes (marked (now (room .entry)) (z .nodes)) (graphOf (now (src .entry))))) (body (withoutNodes (marked (now (room .entry)) (z .nodes)) (graphOf (now (src .entry))))) ⌝ }
+{
+    write::put_header(out, y);
+    let labels = form::label_row(z);
+    let new_labels = form::label_row(y);
+    let nodes = put_left_labels(src, labels, 0, z.nodes, room, out, new_labels, 0);
+    le::copy_numbers(out, new_labels, nodes, src, labels, z.nodes, z.edges);
+    let new_body = form::body_row(y);
+    let lists = 2 * z.edges + z.ports;
     let ids = z.sources + z.targets;
-    let sources = put_moved_edges(src, edges, z.edges, map, out, labels + z.edges * 4);
-    let pairs = put_moved_ids(src, lists, ids, map, out, sources);
-    put_moved_pairs(src, lists + ids * form::WIDTH, z.pairs, map, out, pairs);
+    let sources = put_moved_edges(src, z, room, map, out, new_body);
+    let pairs = put_moved_ids(src, z, lists, ids, room, map, out, new_body, sources);
+    put_moved_pairs(
+        src,
+        z,
+        lists + ids,
+        z.pairs,
+        room,
+        map,
+        out,
+        new_body,
+        pairs,
+    );
 }
 
-// What deleting nodes answers: the bytes of the graph, and the entries of the map.
-pub enum Deleting {
-    Done { bytes: usize, entries: usize },
-    Refused(form::Refusal),
-}
-
-// The graph without the listed nodes, and the map that says where each old node went: its new id, or 65,535.
+// The graph without the listed nodes, and the map that says where each old node went: its new id, or the highest number of the width.
 pub fn delete_nodes(
     src: &[u8],
     ids: &[u8],
     out: &mut [u8],
     map: &mut [u8],
     room: &mut [u8],
-) -> Deleting
-    ensures { λ r. ⌜ r ≡ deleting (inWorkRoom roomDeleteNodes (length (now (room .entry))) (deleteNodesCall form1 (now (src .entry)) (now (ids .entry)) (length (now (out .entry))) (length (now (map .entry))))) ⌝ }
-    ensures { λ r. ⌜ now (out .exit) ≡ laid (λ d. d .form) (inWorkRoom roomDeleteNodes (length (now (room .entry))) (deleteNodesCall form1 (now (src .entry)) (now (ids .entry)) (length (now (out .entry))) (length (now (map .entry))))) (now (out .entry)) ⌝ }
-    ensures { λ r. ⌜ now (map .exit) ≡ laid (λ d. d .map) (inWorkRoom roomDeleteNodes (length (now (room .entry))) (deleteNodesCall form1 (now (src .entry)) (now (ids .entry)) (length (now (out .entry))) (length (now (map .entry))))) (now (map .entry)) ⌝ }
+) -> Outcome
+    ensures { λ r. ⌜ GivesMap (deleteNodesCall (now (src .entry)) (now (ids .entry)) (length (now (out .entry))) (length (now (map .entry))) (length (now (room .entry)))) r (now (out .entry)) (now (out .exit)) (now (map .entry)) (now (map .exit)) ⌝ }
 {
-    if room.len() < ROOM_DELETE_NODES {
-        return Deleting::Refused(form::Refusal { no: 10 });
-    }
-    let graph = form::read(src);
-    let form::Reading::Sized(z) = graph else {
-        return Deleting::Refused(graph.refusal());
+    let lent = read::work_room(room.len(), ROOM_DELETE_NODES);
+    let Step::Number(_) = lent else {
+        return Outcome::Refused(lent.refusal());
     };
-    let list = form::id_list(ids, z.nodes);
-    let form::Listed::Entries(n) = list else {
-        return Deleting::Refused(list.refusal());
+    let graph = read::read(src);
+    let Reading::Sized(z) = graph else {
+        return Outcome::Refused(graph.refusal());
     };
-    mark(room, z.nodes, ids, n);
-    let y = without_nodes(src, z, room);
-    let size = form::result_size(y, out.len());
-    let form::Fit::Bytes(bytes) = size else {
-        return Deleting::Refused(size.refusal());
+    let list = read::id_list(ids, z.width, z.nodes);
+    let Step::Number(n) = list else {
+        return Outcome::Refused(list.refusal());
     };
-    if map.len() < z.nodes * form::WIDTH {
-        return Deleting::Refused(form::Refusal { no: 10 });
-    }
-    put_map(room, z.nodes, map);
-    put_without_nodes(src, z, y, room, map, out);
-    Deleting::Done {
-        bytes,
-        entries: z.nodes,
+    let r = Row {
+        at: 0,
+        width: z.width,
+    };
+    mark(room, z.nodes, ids, r, n);
+    let sizes = without_nodes(src, z, room);
+    let size = write::result_size(sizes, out.len());
+    let Step::Number(bytes) = size else {
+        return Outcome::Refused(size.refusal());
+    };
+    let fit = read::work_room(map.len(), z.nodes * z.width);
+    let Step::Number(_) = fit else {
+        return Outcome::Refused(fit.refusal());
+    };
+    put_map(room, z.nodes, map, r);
+    put_without_nodes(src, z, sizes, room, map, out);
+    Outcome::Done {
+        a: bytes,
+        b: z.nodes,
     }
 }

@@ -1,140 +1,145 @@
 -- What the types of this crate stand for: for each of their values the definition's answer.
 -- Assumes nothing.
-use Prim.Native.Nat.{ℕ, _+_, _*_, _-_, max}
-use mathlib.Core.List.{List, _∷_, _++_}
+use Prim.Native.Nat.{ℕ, _+_, _*_, _≤_, _<_, _^_}
+use mathlib.Core.List.{List}
+use mathlib.Core.Path.{_≡_}
 use lib.ListN.{length}
-use mathlib.Core.Bool.{Bool, cond, _&&_}
-use lib.Dec.{leb}
-use Rattle.graph.specs.Graph.{Edge, Graph, Counts, ports, edgeEntries, form1, countsFit}
-use Rattle.graph.specs.Form.{formBytes}
-use Rattle.graph.specs.Answer.{Answer, refused, answered}
-use Rattle.graph.specs.Calls.{Made}
-use Rattle.form.specs.Reach.{reach}
+use Rattle.le.specs.Le.{Wide}
+use Rattle.le.specs.Rows.{rowAt, entry}
+use Rattle.le.specs.declared.Row.{Row}
+use Rattle.graph.specs.Graph as graph
+use Rattle.graph.specs.Graph.{Graph, Counts, ports}
+use Rattle.graph.specs.Answer as answer
+use Rattle.graph.specs.Answer.{Answer, refused, answered, Result, laid, laidMap}
+use Rattle.graph.specs.Versions.{Stored}
 use Rattle.form.specs.declared.Refusal.{Refusal}
+use Rattle.form.specs.declared.Format.{Format}
 use Rattle.form.specs.declared.Sizes.{Sizes}
+use Rattle.form.specs.declared.EdgeAt.{EdgeAt}
 use Rattle.form.specs.declared.Reading.{Reading}
 use Rattle.form.specs.declared.Reading.the-variants as read
 use Rattle.form.specs.declared.Step.{Step}
 use Rattle.form.specs.declared.Step.the-variants as step
-use Rattle.form.specs.declared.Listed.{Listed}
-use Rattle.form.specs.declared.Listed.the-variants as list
-use Rattle.form.specs.declared.Named.{Named}
-use Rattle.form.specs.declared.Named.the-variants as name
-use Rattle.form.specs.declared.Checked.{Checked}
-use Rattle.form.specs.declared.Checked.the-variants as check
-use Rattle.form.specs.declared.Fit.{Fit}
-use Rattle.form.specs.declared.Fit.the-variants as fit
-use Rattle.form.specs.declared.Written.{Written}
-use Rattle.form.specs.declared.Written.the-variants as write
-use Rattle.form.specs.declared.reader.Reader.{Reader}
+use Rattle.form.specs.declared.Outcome.{Outcome}
+use Rattle.form.specs.declared.Outcome.the-variants as call
 
-abbrev pub refusal : ℕ → Refusal
-refusal n = record { no = n }
+-- ---- answers
 
--- five counts, in the header's order
-abbrev pub counted : ℕ → ℕ → ℕ → ℕ → ℕ → Counts
-counted n e s t p = record { nodes = n; edges = e; sources = s; targets = t; pairs = p }
+abbrev pub refusalOf : answer.Refusal → Refusal
+refusalOf r = record { no = r .no }
 
--- the header's counts, with a port sum
-abbrev pub sized : Counts → ℕ → Sizes
-sized c sum = record { nodes = c .nodes; edges = c .edges; ports = sum; sources = c .sources; targets = c .targets; pairs = c .pairs }
+abbrev pub meantBy : Refusal → answer.Refusal
+meantBy x = record { no = x .no }
+
+-- a step that answers a number
+abbrev pub numbered : Answer ℕ → Step
+numbered (refused r) = step.Refused (refusalOf r)
+numbered (answered n) = step.Number n
+
+-- a step that answers a list: how long it is
+abbrev pub counted : {A : Type 0} → Answer (List A) → Step
+counted (refused r) = step.Refused (refusalOf r)
+counted (answered xs) = step.Number (length xs)
+
+-- a step that only tests: 0 where it passes
+abbrev pub tested : {A : Type 0} → Answer A → Step
+tested (refused r) = step.Refused (refusalOf r)
+tested (answered a) = step.Number 0
+
+-- a call: its two numbers
+abbrev pub outcome : Answer Result → Outcome
+outcome (refused r) = call.Refused (refusalOf r)
+outcome (answered x) = call.Done (x .a) (x .b)
+
+-- the outcome of a call with this answer, and the answer buffer before and after it
+pub record Gives (a : Answer Result) (r : Outcome) (old new : List ℕ) : Type 0 where
+  pub result : r ≡ outcome a
+  pub buffer : new ≡ laid a old
+
+-- the same of a call that answers a map as well
+pub record GivesMap (a : Answer Result) (r : Outcome) (old new oldMap newMap : List ℕ) : Type 0 where
+  pub result : r ≡ outcome a
+  pub buffer : new ≡ laid a old
+  pub map : newMap ≡ laidMap a oldMap
+
+-- the refusal in an answer, of number 0 where there is none
+abbrev pub refusalIn : Step → Refusal
+refusalIn (step.Number n) = record { no = 0 }
+refusalIn (step.Refused x) = x
+
+abbrev pub refusalRead : Reading → Refusal
+refusalRead (read.Sized z) = record { no = 0 }
+refusalRead (read.Refused x) = x
+
+-- ---- versions and sizes
+
+-- the version that is meant
+abbrev pub meant : Format → graph.Format
+meant f = record {
+  version = f .version;
+  width = f .width;
+  mostPorts = f .ports;
+  most = record { nodes = f .nodes; edges = f .edges; sources = f .sources; targets = f .targets; pairs = f .pairs };
+}
+
+-- counts with a port sum, in a width
+abbrev pub sized : ℕ → Counts → ℕ → Sizes
+sized width c sum = record {
+  width = width;
+  nodes = c .nodes;
+  edges = c .edges;
+  ports = sum;
+  sources = c .sources;
+  targets = c .targets;
+  pairs = c .pairs;
+}
 
 -- the counts that sizes hold
 abbrev pub countsOf : Sizes → Counts
 countsOf z = record { nodes = z .nodes; edges = z .edges; sources = z .sources; targets = z .targets; pairs = z .pairs }
 
--- the sizes of a graph
-abbrev pub sizesOf : Graph → Sizes
-sizesOf g = record {
-  nodes = length (g .labels);
-  edges = length (g .edges);
-  ports = ports g;
-  sources = length (g .sources);
-  targets = length (g .targets);
-  pairs = length (g .pairs);
-}
-
--- a header read: its counts, before any port is counted
-abbrev pub headed : Answer Counts → Reading
-headed (refused n) = read.Refused (refusal n)
-headed (answered c) = read.Sized (sized c 0)
+-- the sizes of a graph in a version
+abbrev pub sizesOf : graph.Format → Graph → Sizes
+sizesOf f g = sized (f .width) (graph.counts g) (ports g)
 
 -- a graph read: its sizes
-abbrev pub reading : Answer Graph → Reading
-reading (refused n) = read.Refused (refusal n)
-reading (answered g) = read.Sized (sizesOf g)
+abbrev pub reading : Answer Stored → Reading
+reading (refused r) = read.Refused (refusalOf r)
+reading (answered s) = read.Sized (sizesOf (s .format) (s .graph))
 
--- an edge read from n bytes, after edges of this port sum and ids of this reach: the sum with it, the place after it, and the reach
-abbrev pub edgeStep : ℕ → ℕ → ℕ → Answer (Edge × List ℕ) → Step
-edgeStep n sum bound (refused k) = step.Refused (refusal k)
-edgeStep n sum bound (answered x) =
-    step.Next (sum + (length (x .0 .sources) + length (x .0 .targets))) (n - length (x .1)) (max bound (reach (x .0 .sources ++ x .0 .targets)))
+-- sizes that a form can have: 32 bits each
+pub record Low (z : Sizes) : Type 0 where
+  pub width : Wide (z .width)
+  pub narrow : z .width ≤ 4
+  pub nodes : z .nodes < 2 ^ 32
+  pub edges : z .edges < 2 ^ 32
+  pub ports : z .ports < 2 ^ 32
+  pub sources : z .sources < 2 ^ 32
+  pub targets : z .targets < 2 ^ 32
+  pub pairs : z .pairs < 2 ^ 32
 
--- edges read: their port sum, the place after them, and the reach of their ids
-abbrev pub edgesStep : ℕ → Answer (List Edge × List ℕ) → Step
-edgesStep n (refused k) = step.Refused (refusal k)
-edgesStep n (answered x) = step.Next (length (edgeEntries (x .0))) (n - length (x .1)) (reach (edgeEntries (x .0)))
+-- ---- the rows of a form
 
--- a list in a call: how many entries it has
-abbrev pub listed : Answer (List ℕ) → Listed
-listed (refused n) = list.Refused (refusal n)
-listed (answered xs) = list.Entries (length xs)
+-- the row of all labels, and that of all counts and ids
+abbrev pub labelsOf : Sizes → Row
+labelsOf z = rowAt (5 + 5 * z .width) 4
 
--- a single id in a call: the id
-abbrev pub named : Answer ℕ → Named
-named (refused n) = name.Refused (refusal n)
-named (answered id) = name.Id id
+abbrev pub bodyOf : Sizes → Row
+bodyOf z = rowAt (5 + 5 * z .width + (z .nodes + z .edges) * 4) (z .width)
 
--- the places of the edges and of the global lists in a form
-abbrev pub edgesAt : ℕ → ℕ → ℕ
-edgesAt nodes edges = 15 + (nodes + edges) * 4
+-- where the global lists and the pairs begin in the second
+abbrev pub listsFrom : Sizes → ℕ
+listsFrom z = 2 * z .edges + z .ports
 
-abbrev pub listsAt : ℕ → ℕ → ℕ → ℕ
-listsAt nodes edges ports = edgesAt nodes edges + (2 * edges + ports) * 2
+-- how many numbers it has
+abbrev pub bodySize : Sizes → ℕ
+bodySize z = listsFrom z + (z .sources + (z .targets + 2 * z .pairs))
 
--- a result of these sizes: 9 it passes a limit, 10 its form is longer than the room, else the bytes of its form
-unfoldable pub fitted : Sizes → ℕ → Fit
-fitted z room =
-    cond (countsFit form1 (countsOf z) && leb (z .ports) (form1 .mostPorts))
-    (cond (leb (formBytes form1 (countsOf z) (z .ports)) room) (fit.Bytes (formBytes form1 (countsOf z) (z .ports))) (fit.Refused (refusal 10)))
-    (fit.Refused (refusal 9))
-
--- a graph written: the bytes and the new id
-abbrev pub written : Answer Made → Written
-written (refused n) = write.Refused (refusal n)
-written (answered m) = write.Done (length (m .form)) (m .id)
-
--- a check: yes or no
-abbrev pub checked : Answer Bool → Checked
-checked (refused n) = check.Refused (refusal n)
-checked (answered b) = check.Answer b
-
--- bytes written, without an id
-abbrev pub stored : Answer (List ℕ) → Written
-stored (refused n) = write.Refused (refusal n)
-stored (answered b) = write.Done (length b) 0
-
--- the refusal in an answer, of number 0 where there is none
-abbrev pub readRefusal : Reading → Refusal
-readRefusal (read.Sized z) = refusal 0
-readRefusal (read.Refused x) = x
-
-abbrev pub stepRefusal : Step → Refusal
-stepRefusal (step.Next p a b) = refusal 0
-stepRefusal (step.Refused x) = x
-
-abbrev pub listRefusal : Listed → Refusal
-listRefusal (list.Entries n) = refusal 0
-listRefusal (list.Refused x) = x
-
-abbrev pub nameRefusal : Named → Refusal
-nameRefusal (name.Id n) = refusal 0
-nameRefusal (name.Refused x) = x
-
-abbrev pub fitRefusal : Fit → Refusal
-fitRefusal (fit.Bytes n) = refusal 0
-fitRefusal (fit.Refused x) = x
-
--- a reader this many bytes on
-abbrev pub past : ℕ → Reader → Reader
-past n r = record { src = r .src; at = r .at + n }
+-- the edge at index k of a row
+unfoldable pub edgeIn : List ℕ → Row → ℕ → EdgeAt
+edgeIn b r k = record {
+  sources = entry b r k;
+  targets = entry b r (k + 1);
+  first = k + 2;
+  end = k + 2 + entry b r k + entry b r (k + 1);
+}

@@ -1,3 +1,2 @@
-pub mod Reach
 pub mod Form
 pub mod Stored

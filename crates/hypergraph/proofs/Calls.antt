@@ -1,94 +1,135 @@
--- What each call makes of what it was given, after its checks have passed, and the refusals between.
+-- The ways out of the calls: what each step answers, and how a call ends after the size of its result was looked at.
 -- Assumes nothing.
+use mathlib.Core.Bool.{false, and-false}
 use mathlib.Core.List.{List}
 use mathlib.Core.Path.{_≡_, refl, sym, ap, _∙_}
-use Prim.Native.Nat.{ℕ}
+use Prim.Native.Nat.{ℕ, _<_}
 use lib.ListN.{length}
-use Rattle.form.specs.declared.Sizes.{Sizes}
-use Rattle.graph.specs.Answer.{refused, answered}
-use Rattle.graph.specs.Build.{empty, discrete, newNode, newEdge, newOperation, unify}
-use Rattle.graph.specs.Calls.{Next, made, known, labelList, idList, onNothing, onGraph, emptyStep, discreteStep, newNodeStep, newEdgeStep, newOperationStep, unifyStep}
-use Rattle.graph.specs.Graph.{Graph, form1}
-use Rattle.form.proofs.Whole.{Stored}
+use borrow.Author.Tests.{lt-leb}
+use Rattle.graph.specs.Answer as answer
+use Rattle.graph.specs.Answer.{Answer, refused, answered, Result}
+use Rattle.graph.specs.Build.{newNode, newEdge, newOperation, unify}
+use Rattle.graph.specs.Calls.{Next, onNothing, onGraph, known, idList, labelList, newNodeStep, newEdgeStep, newOperationStep, unifyStep}
+use Rattle.graph.specs.Form.{labelRow, body}
+use Rattle.graph.specs.Graph.{Graph, Format, counts, ports, largest, countsFit, withinLimits}
+use Rattle.graph.specs.Versions.{fitting}
 use Rattle.graph.proofs.Steps.{stops, goes}
-use Rattle.graph.proofs.Verdicts.{call-made, call-stopped, nothing-made, nothing-stopped}
+use Rattle.graph.proofs.Verdicts.{call-made, made-9}
+use Rattle.form.specs.Form.{numbered, sizesOf, Gives, refusalIn, refusalRead}
+use Rattle.form.specs.Stored.{storedOf, graphOf, formatOf, Stored}
+use Rattle.form.specs.declared.Outcome.the-variants as call
+use Rattle.form.specs.declared.Reading.the-variants as reading
+use Rattle.form.specs.declared.Reading.{Reading}
+use Rattle.form.specs.declared.Refusal.{Refusal}
+use Rattle.form.specs.declared.Sizes.{Sizes}
+use Rattle.form.specs.declared.Step.the-variants as steps
+use Rattle.form.specs.declared.Step.{Step}
+use Rattle.form.proofs.Answers.{gives-refused}
+use Rattle.write.specs.Write.{resultSize, drawn, Room}
+use Rattle.write.proofs.Calls.{graph-refused, graph-fits, graph-done, nothing-refused, nothing-fits, nothing-done}
+use Rattle.write.proofs.Results.{fits-room}
 
 -- a step's graph and its id
 abbrev pub next : Graph → ℕ → Next
 next g id = record { graph = g; id = id }
 
--- ---- from nothing
+-- ---- refusals that are passed on
 
-module _ (room : ℕ) where
-  pub empty-made : onNothing form1 room emptyStep ≡ made form1 room (next empty 0)
-  unfolding emptyStep
-  empty-made = nothing-made form1 room emptyStep (next empty 0) refl
+pub passed-on : {r : Step} {x q : Refusal} → r ≡ steps.Refused x → q ≡ refusalIn r → r ≡ steps.Refused q
+passed-on e p = e ∙ ap steps.Refused (sym (p ∙ ap refusalIn e))
 
-  module _ (b : List ℕ) where
-    pub discrete-7 : (n : ℕ) → labelList b ≡ refused n → onNothing form1 room (discreteStep b) ≡ refused n
-    unfolding discreteStep
-    discrete-7 n e = nothing-stopped form1 room (discreteStep b) n (stops _ e)
+pub passed-read : {r : Reading} {x q : Refusal} → r ≡ reading.Refused x → q ≡ refusalRead r → r ≡ reading.Refused q
+passed-read e p = e ∙ ap reading.Refused (sym (p ∙ ap refusalRead e))
 
-    pub discrete-made : (labels : List ℕ) → labelList b ≡ answered labels → onNothing form1 room (discreteStep b) ≡ made form1 room (next (discrete labels) 0)
-    unfolding discreteStep
-    discrete-made labels e = nothing-made form1 room (discreteStep b) (next (discrete labels) 0) (goes _ e)
+-- ---- the end of a call
 
--- ---- from a stored graph
+-- after the answer r to the size of its result h, of sizes y: refused; or there is room, and what was written is the result
+pub record Ends (a : Answer Result) (old : List ℕ) (y : Sizes) (r : Step) (h : Graph) (id : ℕ) : Type 0 where
+  pub refuses : {x q : Refusal} → r ≡ steps.Refused x → q ≡ refusalIn r → Gives a (call.Refused q) old old
+  pub room : {n : ℕ} → r ≡ steps.Number n → Room old y
+  pub done : {n : ℕ} {new : List ℕ} → r ≡ steps.Number n → new ≡ drawn old y (labelRow h) (body h) → Gives a (call.Done n id) old new
 
-module _ (b : List ℕ) (room : ℕ) (z : Sizes) (s : Stored b z) where
-  nodes-are : length (s .graph .labels) ≡ z .nodes
+module _ (old : List ℕ) (h : Graph) (id : ℕ) {y : Sizes} (sizes : y ≡ sizesOf (fitting h) h) {r : Step} (size : r ≡ numbered (resultSize y (length old))) where
+  pub graph-ends : (b : List ℕ) (step : Format → Graph → Answer Next) {z : Sizes} → Stored b z → step (formatOf b) (graphOf b) ≡ answered (next h id)
+      → Ends (onGraph b (length old) step) old y r h id
+  graph-ends b step s is = record {
+    refuses = λ {x} {q} e p. graph-refused b step old s (next h id) is y sizes r size q (passed-on e p);
+    room = λ {n} e. fits-room (graph-fits b step old s (next h id) is y sizes r size n e) old refl;
+    done = λ {n} {new} e w. graph-done b step old s (next h id) is y sizes r size n e new w;
+  }
+
+  pub nothing-ends : (start : Answer Next) → start ≡ answered (next h id) → Ends (onNothing (length old) start) old y r h id
+  nothing-ends start is = record {
+    refuses = λ {x} {q} e p. nothing-refused start old (next h id) is y sizes r size q (passed-on e p);
+    room = λ {n} e. fits-room (nothing-fits start old (next h id) is y sizes r size n e) old refl;
+    done = λ {n} {new} e w. nothing-done start old (next h id) is y sizes r size n e new w;
+  }
+
+-- a result with more ports than there may be
+pub graph-over : (b : List ℕ) (step : Format → Graph → Answer Next) (old : List ℕ) {z : Sizes} → Stored b z → (x : Next) → step (formatOf b) (graphOf b) ≡ answered x
+    → largest .mostPorts < ports (x .graph) → Gives (onGraph b (length old) step) (call.Refused (record { no = 9 })) old old
+graph-over b step old s x is h =
+    let over : withinLimits largest (x .graph) ≡ false =
+    rw (lt-leb (ports (x .graph)) (largest .mostPorts) h) (and-false (countsFit largest (counts (x .graph)))) in
+    gives-refused (record { no = 9 }) old (call-made b (length old) step (storedOf b) (s .read-as) x is ∙ made-9 (length old) x over)
+
+-- ---- what the steps answer
+
+module _ {b : List ℕ} {z : Sizes} (s : Stored b z) where
+  nodes-are : length (graphOf b .labels) ≡ z .nodes
   nodes-are = ap (λ (y : Sizes). y .nodes) (sym (s .sizes))
 
-  edges-are : length (s .graph .edges) ≡ z .edges
+  edges-are : length (graphOf b .edges) ≡ z .edges
   edges-are = ap (λ (y : Sizes). y .edges) (sym (s .sizes))
 
-  pub new-node-made : (label : ℕ) → onGraph form1 b room (newNodeStep label) ≡ made form1 room (next (newNode label (s .graph)) (z .nodes))
+  pub width : formatOf b .width ≡ z .width
+  width = ap (λ (y : Sizes). y .width) (sym (s .sizes))
+
+  pub new-node-next : (label : ℕ) → newNodeStep label (graphOf b) ≡ answered (next (newNode label (graphOf b)) (z .nodes))
   unfolding newNodeStep
-  new-node-made label = call-made form1 b room (newNodeStep label) (s .graph) (s .read-as) _ (ap (λ n. answered (next (newNode label (s .graph)) n)) nodes-are)
+  new-node-next label = ap (λ (n : ℕ). answered (next (newNode label (graphOf b)) n)) nodes-are
 
   module _ (v w : ℕ) where
-    pub unify-first-7 : (n : ℕ) → known (z .nodes) v ≡ refused n → onGraph form1 b room (unifyStep v w) ≡ refused n
+    pub unify-first : {r : answer.Refusal} → known (z .nodes) v ≡ refused r → unifyStep v w (graphOf b) ≡ refused r
     unfolding unifyStep
-    unify-first-7 n e = call-stopped form1 b room (unifyStep v w) (s .graph) (s .read-as) n (rw nodes-are (stops _ e))
+    unify-first e = rw nodes-are (stops _ e)
 
-    module _ (x : ℕ) (p : known (z .nodes) v ≡ answered x) where
-      pub unify-second-7 : (n : ℕ) → known (z .nodes) w ≡ refused n → onGraph form1 b room (unifyStep v w) ≡ refused n
+    module _ {x : ℕ} (p : known (z .nodes) v ≡ answered x) where
+      pub unify-second : {r : answer.Refusal} → known (z .nodes) w ≡ refused r → unifyStep v w (graphOf b) ≡ refused r
       unfolding unifyStep
-      unify-second-7 n e = call-stopped form1 b room (unifyStep v w) (s .graph) (s .read-as) n (rw nodes-are (goes _ p ∙ stops _ e))
+      unify-second e = rw nodes-are (goes _ p ∙ stops _ e)
 
-      pub unify-made : (y : ℕ) → known (z .nodes) w ≡ answered y → onGraph form1 b room (unifyStep v w) ≡ made form1 room (next (unify x y (s .graph)) 0)
+      pub unify-next : {y : ℕ} → known (z .nodes) w ≡ answered y → unifyStep v w (graphOf b) ≡ answered (next (unify x y (graphOf b)) 0)
       unfolding unifyStep
-      unify-made y q = call-made form1 b room (unifyStep v w) (s .graph) (s .read-as) _ (rw nodes-are (goes _ p ∙ goes _ q))
+      unify-next q = rw nodes-are (goes _ p ∙ goes _ q)
 
   module _ (label : ℕ) (sources targets : List ℕ) where
-    pub new-edge-sources-7 : (n : ℕ) → idList form1 (z .nodes) sources ≡ refused n → onGraph form1 b room (newEdgeStep form1 label sources targets) ≡ refused n
+    pub new-edge-sources : {r : answer.Refusal} → idList (formatOf b) (z .nodes) sources ≡ refused r
+        → newEdgeStep (formatOf b) label sources targets (graphOf b) ≡ refused r
     unfolding newEdgeStep
-    new-edge-sources-7 n e = call-stopped form1 b room (newEdgeStep form1 label sources targets) (s .graph) (s .read-as) n (rw nodes-are (stops _ e))
+    new-edge-sources e = rw nodes-are (stops _ e)
 
-    module _ (ss : List ℕ) (p : idList form1 (z .nodes) sources ≡ answered ss) where
-      pub new-edge-targets-7 : (n : ℕ) → idList form1 (z .nodes) targets ≡ refused n → onGraph form1 b room (newEdgeStep form1 label sources targets) ≡ refused n
-      unfolding newEdgeStep
-      new-edge-targets-7 n e = call-stopped form1 b room (newEdgeStep form1 label sources targets) (s .graph) (s .read-as) n (rw nodes-are (goes _ p ∙ stops _ e))
-
-      pub new-edge-made : (ts : List ℕ) → idList form1 (z .nodes) targets ≡ answered ts
-          → onGraph form1 b room (newEdgeStep form1 label sources targets) ≡ made form1 room (next (newEdge label ss ts (s .graph)) (z .edges))
-      unfolding newEdgeStep
-      new-edge-made ts q =
-          call-made form1 b room (newEdgeStep form1 label sources targets) (s .graph) (s .read-as) _
-          (rw nodes-are (goes _ p ∙ goes _ q ∙ ap (λ n. answered (next (newEdge label ss ts (s .graph)) n)) edges-are))
-
-    pub new-operation-sources-7 : (n : ℕ) → labelList sources ≡ refused n → onGraph form1 b room (newOperationStep label sources targets) ≡ refused n
+    pub new-operation-sources : {r : answer.Refusal} → labelList sources ≡ refused r → newOperationStep label sources targets (graphOf b) ≡ refused r
     unfolding newOperationStep
-    new-operation-sources-7 n e = call-stopped form1 b room (newOperationStep label sources targets) (s .graph) (s .read-as) n (stops _ e)
+    new-operation-sources e = stops _ e
 
-    module _ (ss : List ℕ) (p : labelList sources ≡ answered ss) where
-      pub new-operation-targets-7 : (n : ℕ) → labelList targets ≡ refused n → onGraph form1 b room (newOperationStep label sources targets) ≡ refused n
-      unfolding newOperationStep
-      new-operation-targets-7 n e = call-stopped form1 b room (newOperationStep label sources targets) (s .graph) (s .read-as) n (goes _ p ∙ stops _ e)
+    module _ {ss : List ℕ} (p : idList (formatOf b) (z .nodes) sources ≡ answered ss) where
+      pub new-edge-targets : {r : answer.Refusal} → idList (formatOf b) (z .nodes) targets ≡ refused r
+          → newEdgeStep (formatOf b) label sources targets (graphOf b) ≡ refused r
+      unfolding newEdgeStep
+      new-edge-targets e = rw nodes-are (goes _ p ∙ stops _ e)
 
-      pub new-operation-made : (ts : List ℕ) → labelList targets ≡ answered ts
-          → onGraph form1 b room (newOperationStep label sources targets) ≡ made form1 room (next (newOperation label ss ts (s .graph)) (z .edges))
+      pub new-edge-next : {ts : List ℕ} → idList (formatOf b) (z .nodes) targets ≡ answered ts
+          → newEdgeStep (formatOf b) label sources targets (graphOf b) ≡ answered (next (newEdge label ss ts (graphOf b)) (z .edges))
+      unfolding newEdgeStep
+      new-edge-next {ts} q = rw nodes-are (goes _ p ∙ goes _ q ∙ ap (λ (n : ℕ). answered (next (newEdge label ss ts (graphOf b)) n)) edges-are)
+
+    module _ {ss : List ℕ} (p : labelList sources ≡ answered ss) where
+      pub new-operation-targets : {r : answer.Refusal} → labelList targets ≡ refused r → newOperationStep label sources targets (graphOf b) ≡ refused r
       unfolding newOperationStep
-      new-operation-made ts q =
-          call-made form1 b room (newOperationStep label sources targets) (s .graph) (s .read-as) _
-          (goes _ p ∙ goes _ q ∙ ap (λ n. answered (next (newOperation label ss ts (s .graph)) n)) edges-are)
+      new-operation-targets e = goes _ p ∙ stops _ e
+
+      pub new-operation-next : {ts : List ℕ} → labelList targets ≡ answered ts
+          → newOperationStep label sources targets (graphOf b) ≡ answered (next (newOperation label ss ts (graphOf b)) (z .edges))
+      unfolding newOperationStep
+      new-operation-next {ts} q = goes _ p ∙ goes _ q ∙ ap (λ (n : ℕ). answered (next (newOperation label ss ts (graphOf b)) n)) edges-are

@@ -1,6 +1,5 @@
-pub mod Parts
-pub mod Ranges
+pub mod Held
+pub mod Drawn
+pub mod Bodies
 pub mod Listed
-pub mod Ends
-pub mod Forms
 pub mod Calls

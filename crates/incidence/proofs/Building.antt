@@ -14,10 +14,11 @@ use lib.Seq.{sets, length-sets, getD-set-same, getD-set-other}
 use Rattle.choice.specs.Arcs.{howMany}
 use Rattle.incidence.specs.Listed.{Appended, Low, times, under, Counts, sumTo, LaidOut, endsOf, Empties, Filled, Grouped}
 use Rattle.incidence.specs.Tables.{part, ends}
-use Rattle.le.specs.Le.{numbers, numberAt, Outside}
+use Rattle.le.specs.Le.{Outside}
+use Rattle.le.specs.Rows.{entry, span}
+use Rattle.le.specs.declared.Row.{Row}
 use Rattle.choice.proofs.Degrees.{howMany-length}
-use Rattle.le.proofs.Numbers.{length-numbers}
-use Rattle.le.proofs.Places.{numbers-next}
+use Rattle.le.proofs.Rows.{length-span, span-next}
 use Rattle.le.proofs.Stores.{sets-snoc}
 use Rattle.le.proofs.Tables.{getD-sets}
 use Rattle.incidence.proofs.Ends.{howMany-append, times-here, times-other, under-apart, under-length, sum-times, sum-le, ends-here, ends-other}
@@ -25,12 +26,12 @@ use Rattle.incidence.proofs.Parts.{part-length, part-ext, part-snoc, pa
 use Rattle.le.proofs.Frames.{outside-none, outside-trans, outside-set, outside-sets}
 
 -- one id more
-pub ids-more : (W : List ℕ) (off k : ℕ) (d : List ℕ) (id : ℕ) → id ≡ numberAt 2 d (k * 2)
-    → set (sets W off (numbers 2 k d)) (off + k) id ≡ sets W off (numbers 2 (k + 1) d)
-ids-more W off k d id e =
-    ap (λ (n : ℕ). set (sets W off (numbers 2 k d)) (off + n) id) (sym (length-numbers 2 k d))
-    ∙ sets-snoc W off (numbers 2 k d) id
-    ∙ ap (sets W off) (ap (λ (v : ℕ). numbers 2 k d ++ (v ∷ [])) e ∙ sym (numbers-next 2 k d) ∙ ap (λ (n : ℕ). numbers 2 n d) (sym (add-one k)))
+pub ids-more : (W : List ℕ) (off : ℕ) (b : List ℕ) (r : Row) (j k id : ℕ) → id ≡ entry b r (j + k)
+    → set (sets W off (span b r j k)) (off + k) id ≡ sets W off (span b r j (k + 1))
+ids-more W off b r j k id e =
+    ap (λ (n : ℕ). set (sets W off (span b r j k)) (off + n) id) (sym (length-span b r j k))
+    ∙ sets-snoc W off (span b r j k) id
+    ∙ ap (sets W off) (ap (λ (v : ℕ). span b r j k ++ (v ∷ [])) e ∙ sym (span-next b r j k))
 
 -- ---- the arcs of an edge
 

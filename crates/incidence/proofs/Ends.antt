@@ -13,7 +13,8 @@ use borrow.Author.Tests.{eq-eqb, ne-eqb, lt-ltb, le-ltb}
 use Rattle.choice.specs.Arcs.{Arc, bump, howMany}
 use Rattle.incidence.specs.Listed.{times, under, sumTo, endsOf}
 use Rattle.incidence.specs.Tables.{zip}
-use Rattle.choice.proofs.Degrees.{endsAt, outgoing, incoming, howMany-length}
+use Rattle.choice.specs.Degrees.{endsAt, outgoing, incoming}
+use Rattle.choice.proofs.Degrees.{howMany-length}
 use Rattle.choice.proofs.Sets.{howMany-sum}
 
 pub howMany-append : {A : Type 0} (p : A → Bool) (xs ys : List A) → howMany p (xs ++ ys) ≡ howMany p xs + howMany p ys

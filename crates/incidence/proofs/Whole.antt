@@ -9,11 +9,12 @@ use native.Mathlib.Omega.{arith}
 use lib.ListN.{length, getD}
 use Rattle.choice.specs.Arcs.{Arc, arc, In}
 use Rattle.choice.specs.Drawing.{vertexCount}
-use Rattle.form.specs.Stored.{graphOf}
-use Rattle.incidence.specs.Listed.{Drawn, AllListed, Low, Grouped, Built, times, endsOf}
+use Rattle.form.specs.Stored.{graphOf, Stored}
+use Rattle.form.specs.declared.Sizes.{Sizes}
+use Rattle.incidence.specs.Listed.{AllListed, Low, Grouped, Built, times, endsOf}
 use Rattle.incidence.specs.Tables.{part, zip, arcsIn, ends, Incidence, Degrees}
-use Rattle.choice.proofs.Cycles.{Bounded}
-use Rattle.choice.proofs.Degrees.{outgoing, incoming}
+use Rattle.choice.specs.Promises.{Bounded}
+use Rattle.choice.specs.Degrees.{outgoing, incoming}
 use Rattle.choice.proofs.Fits.{proper-bounded}
 use Rattle.incidence.proofs.Building.{ends-part}
 use Rattle.incidence.proofs.Ends.{length-ends, outgoing-zip, incoming-zip}
@@ -46,16 +47,16 @@ listed-low W m n few long b = ((λ k h. from-low k h), (λ k h. to-low k h))
     to-low : (k : ℕ) → k < m → getD W (8192 + k) 0 < n
     to-low k h = omega (arith, part-at W 8192 m k h, b (getD (part W 0 m) k 0) (getD (part W 8192 m) k 0) (is-in k h) .1)
 
-module _ (b : List ℕ) (nodes edges : ℕ) (d : Drawn b nodes edges) (A : List ℕ) (m : ℕ) (all : AllListed b A m) (long : 63488 ≤ length A) where
-  pub bounded : Bounded (arcsIn A m) (nodes + edges)
+module _ (b : List ℕ) (z : Sizes) (s : Stored b z) (A : List ℕ) (m : ℕ) (all : AllListed b A m) (long : 63488 ≤ length A) where
+  pub bounded : Bounded (arcsIn A m) (z .nodes + z .edges)
   bounded =
-      subst (λ (n : ℕ). Bounded (arcsIn A m) n) (λ i. d .is-nodes i + d .is-edges i)
-      (subst (λ (l : List Arc). Bounded l (vertexCount (graphOf b))) (sym (all .is-arcs)) (proper-bounded (graphOf b) (d .formed .proper)))
+      subst (λ (y : Sizes). Bounded (arcsIn A m) (y .nodes + y .edges)) (sym (s .sizes))
+      (subst (λ (l : List Arc). Bounded l (vertexCount (graphOf b))) (sym (all .is-arcs)) (proper-bounded (graphOf b) (s .formed .proper)))
 
-  pub lows : Low A 0 m (nodes + edges) × Low A 8192 m (nodes + edges)
-  lows = listed-low A m (nodes + edges) (all .few) (omega arith) bounded
+  pub lows : Low A 0 m (z .nodes + z .edges) × Low A 8192 m (z .nodes + z .edges)
+  lows = listed-low A m (z .nodes + z .edges) (all .few) (omega arith) bounded
 
-  module _ (few : nodes + edges ≤ 4096) (B : List ℕ) (o : Grouped A B 0 8192 59392 16384 (nodes + edges) m) where
+  module _ (few : z .nodes + z .edges ≤ 4096) (B : List ℕ) (o : Grouped A B 0 8192 59392 16384 (z .nodes + z .edges) m) where
     -- the arcs are where they were
     froms-same : (k : ℕ) → k < m → getD B (0 + k) 0 ≡ getD A (0 + k) 0
     froms-same k h = o .same (0 + k) (inl (omega (arith, all .few))) (inl (omega (arith, all .few)))
@@ -63,7 +64,7 @@ module _ (b : List ℕ) (nodes edges : ℕ) (d : Drawn b nodes edges) (A : List 
     tos-same : (k : ℕ) → k < m → getD B (8192 + k) 0 ≡ getD A (8192 + k) 0
     tos-same k h = o .same (8192 + k) (inl (omega (arith, all .few))) (inl (omega (arith, all .few)))
 
-    pub low-again : Low B 8192 m (nodes + edges)
+    pub low-again : Low B 8192 m (z .nodes + z .edges)
     low-again k h = omega (arith, tos-same k h, lows .1 k h)
 
     from-part : part B 0 m ≡ part A 0 m
@@ -72,7 +73,7 @@ module _ (b : List ℕ) (nodes edges : ℕ) (d : Drawn b nodes edges) (A : List 
     to-part : part B 8192 m ≡ part A 8192 m
     to-part = part-ext A B 8192 m (o .long) (omega (arith, all .few)) tos-same
 
-    module _ (X : List ℕ) (i : Grouped B X 8192 0 55296 32768 (nodes + edges) m) where
+    module _ (X : List ℕ) (i : Grouped B X 8192 0 55296 32768 (z .nodes + z .edges) m) where
       from-same : part X 0 m ≡ part A 0 m
       from-same =
           part-ext B X 0 m (i .long) (omega (arith, all .few, o .long)) (λ k h. i .same (0 + k) (inl (omega (arith, all .few))) (inl (omega (arith, all .few)))) ∙ from-part
@@ -89,13 +90,13 @@ module _ (b : List ℕ) (nodes edges : ℕ) (d : Drawn b nodes edges) (A : List 
       equal = part-length A 0 m (omega (arith, all .few)) ∙ sym (part-length A 8192 m (omega (arith, all .few)))
 
       -- the first lists are where they were
-      out-start : (v : ℕ) → v < nodes + edges → getD X (16384 + v) 0 ≡ getD B (16384 + v) 0
+      out-start : (v : ℕ) → v < z .nodes + z .edges → getD X (16384 + v) 0 ≡ getD B (16384 + v) 0
       out-start v h = i .same (16384 + v) (inl (omega arith)) (inl (omega arith))
 
-      out-count : (v : ℕ) → v < nodes + edges → getD X (16384 + 4096 + v) 0 ≡ getD B (16384 + 4096 + v) 0
+      out-count : (v : ℕ) → v < z .nodes + z .edges → getD X (16384 + 4096 + v) 0 ≡ getD B (16384 + 4096 + v) 0
       out-count v h = i .same (16384 + 4096 + v) (inl (omega arith)) (inl (omega arith))
 
-      out-list : (v : ℕ) → v < nodes + edges → ends X 16384 v ≡ ends B 16384 v
+      out-list : (v : ℕ) → v < z .nodes + z .edges → ends X 16384 v ≡ ends B 16384 v
       out-list v h =
           let s = getD B (16384 + v) 0 in
           let k = getD B (16384 + 4096 + v) 0 in
@@ -104,35 +105,35 @@ module _ (b : List ℕ) (nodes edges : ℕ) (d : Drawn b nodes edges) (A : List 
           (λ j l. i .same (16384 + 8192 + s + j) (inl (omega (arith, all .few, o .inside v h))) (inl (omega (arith, all .few, o .inside v h))))
           ∙ sym (ends-part B 16384 v)
 
-      out-is : (v : ℕ) → v < nodes + edges → ends X 16384 v ≡ outgoing (arcsIn A m) v
+      out-is : (v : ℕ) → v < z .nodes + z .edges → ends X 16384 v ≡ outgoing (arcsIn A m) v
       unfolding arcsIn
       out-is v h = out-list v h ∙ o .is-list v h ∙ sym (outgoing-zip v (part A 0 m) (part A 8192 m))
 
-      in-is : (v : ℕ) → v < nodes + edges → ends X 32768 v ≡ incoming (arcsIn A m) v
+      in-is : (v : ℕ) → v < z .nodes + z .edges → ends X 32768 v ≡ incoming (arcsIn A m) v
       unfolding arcsIn
       in-is v h = i .is-list v h ∙ ap (λ (l : List ℕ). endsOf v l (part B 0 m)) to-part ∙ ap (endsOf v (part A 8192 m)) from-part ∙ sym (incoming-zip v (part A 0 m) (part A 8192 m))
 
-      in-count : (v : ℕ) → v < nodes + edges → getD X (55296 + v) 0 ≡ length (incoming (arcsIn A m) v)
+      in-count : (v : ℕ) → v < z .nodes + z .edges → getD X (55296 + v) 0 ≡ length (incoming (arcsIn A m) v)
       unfolding arcsIn
       in-count v h =
           i .count v h ∙ ap (times v) to-part ∙ sym (length-ends v (part A 8192 m) (part A 0 m) (sym equal)) ∙ ap length (sym (incoming-zip v (part A 0 m) (part A 8192 m)))
 
-      out-degree : (v : ℕ) → v < nodes + edges → getD X (59392 + v) 0 ≡ length (outgoing (arcsIn A m) v)
+      out-degree : (v : ℕ) → v < z .nodes + z .edges → getD X (59392 + v) 0 ≡ length (outgoing (arcsIn A m) v)
       unfolding arcsIn
       out-degree v h =
           i .same (59392 + v) (inr (omega arith)) (inr (omega arith)) ∙ o .count v h
           ∙ sym (length-ends v (part A 0 m) (part A 8192 m) equal) ∙ ap length (sym (outgoing-zip v (part A 0 m) (part A 8192 m)))
 
-      pub built : Built b X (nodes + edges) m
+      pub built : Built b X (z .nodes + z .edges) m
       built = record {
         few = all .few;
         is-ports = all .is-ports;
         is-arcs = arcs-same ∙ all .is-arcs;
-        lists = subst (λ (l : List Arc). Incidence l (nodes + edges) X) (sym arcs-same) (record {
+        lists = subst (λ (l : List Arc). Incidence l (z .nodes + z .edges) X) (sym arcs-same) (record {
           is-out = out-is;
           is-in = in-is;
           out-inside = λ v h. omega (arith, all .few, o .inside v h, out-start v h, out-count v h);
           in-inside = λ v h. omega (arith, all .few, i .inside v h);
         });
-        degrees = subst (λ (l : List Arc). Degrees l (nodes + edges) X) (sym arcs-same) (record { is-indegree = in-count; is-outdegree = out-degree });
+        degrees = subst (λ (l : List Arc). Degrees l (z .nodes + z .edges) X) (sym arcs-same) (record { is-indegree = in-count; is-outdegree = out-degree });
       }

@@ -6,20 +6,12 @@ use mathlib.Core.List.{List, [], _∷_, _++_}
 use Prim.Native.Nat.{ℕ, zero, suc, _+_, _≤_, _<_}
 use lib.Dec.{eqb, ltb}
 use lib.ListN.{length, getD, replicate}
-use Rattle.graph.specs.Graph.{WellFormed, form1, ports}
-use Rattle.graph.specs.Form.{encode}
+use Rattle.graph.specs.Graph.{ports}
 use Rattle.form.specs.Stored.{graphOf}
 use Rattle.choice.specs.Arcs.{howMany}
 use Rattle.choice.specs.Drawing.{arcs}
 use Rattle.incidence.specs.Tables.{part, arcsIn, ends, Incidence, Degrees}
 use Rattle.le.specs.Le.{Outside, Apart}
-
--- bytes that are the form of a graph with so many nodes and edges
-pub record Drawn (b : List ℕ) (nodes edges : ℕ) : Type 0 where
-  pub whole : encode form1 (graphOf b) ≡ b
-  pub formed : WellFormed form1 (graphOf b)
-  pub is-nodes : length (graphOf b .labels) ≡ nodes
-  pub is-edges : length (graphOf b .edges) ≡ edges
 
 -- k arcs stood listed, and after them now those of an edge: from its sources to it, and from it to its targets
 pub record Appended (W X : List ℕ) (k vertex : ℕ) (sources targets : List ℕ) : Type 0 where

@@ -5,7 +5,7 @@ use mathlib.Core.List.{List, [], _∷_}
 use Prim.Native.Nat.{ℕ, _+_, _≤_, _<_}
 use lib.ListN.{length, getD, take, drop}
 use Rattle.choice.specs.Arcs.{Arc, arc}
-use Rattle.choice.proofs.Degrees.{outgoing, incoming}
+use Rattle.choice.specs.Degrees.{outgoing, incoming}
 
 -- where each arc comes from, and where it leads to
 abbrev pub froms : ℕ

@@ -2,10 +2,15 @@
 // it leads to, the same of what leads to it, and the degrees.
 ghost use mathlib.Core.Path.{_≡_};
 ghost use Prim.Native.Nat.{ℕ, _+_, _*_, _<_, _≤_};
-ghost use lib.ListN.{length, getD, set, drop, replicate};
+ghost use lib.ListN.{length, getD, set, replicate};
 ghost use lib.Seq.{sets};
-ghost use Rattle.le.specs.Le.{words, numbers};
-ghost use Rattle.incidence.specs.Listed.{Drawn, Appended, AllListed, Low, Counts, LaidOut, Empties, Filled, Grouped, Built};
+ghost use Rattle.le.specs.Le.{words};
+ghost use Rattle.le.specs.Rows.{Holds, span};
+ghost use Rattle.form.specs.Stored.{Stored};
+ghost use Rattle.incidence.specs.Listed.{Appended, AllListed, Low, Counts, LaidOut, Empties, Filled, Grouped, Built};
+use form::EdgeAt;
+use form::Sizes;
+use le::Row;
 
 // Where the tables stand, in words.
 pub const FROM: usize = 0;
@@ -35,59 +40,51 @@ pub fn put_same(room: &mut [u8], off: usize, n: usize, v: u32)
     }
 }
 
-// n ids of a form, from word `off` on.
-fn put_ids(room: &mut [u8], off: usize, src: &[u8], at: usize, n: usize)
-    requires { ⌜ (4 * (off + n) ≤ length (now room)) × (at + n * 2 ≤ length (now src)) ⌝ }
-    ensures { λ _. ⌜ words (now (room .exit)) ≡ sets (words (now (room .entry))) off (numbers 2 n (drop at (now (src .entry)))) ⌝ }
+// n ids of a row, from number j on, from word `off` on.
+fn put_ids(room: &mut [u8], off: usize, src: &[u8], r: Row, j: usize, n: usize)
+    requires { ⌜ (4 * (off + n) ≤ length (now room)) × Holds (now src) r (j + n) ⌝ }
+    ensures { λ _. ⌜ words (now (room .exit)) ≡ sets (words (now (room .entry))) off (span (now (src .entry)) r j n) ⌝ }
 {
     for k in 0..n {
-        let id = le::get2(src, at + k * form::WIDTH);
-        le::set_word(room, off + k, id);
+        let id = le::number(src, r, j + k);
+        le::set_word(room, off + k, id as u32);
     }
 }
 
 // The arcs of an edge after k arcs: from its sources to it, and from it to its targets.
-fn put_edge(
-    room: &mut [u8],
-    src: &[u8],
-    at: usize,
-    k: usize,
-    vertex: usize,
-    sources: usize,
-    targets: usize,
-)
-    requires { ⌜ (65536 ≤ length (now room)) × (k + (sources + targets) ≤ 8192) × (vertex < 65536) × (at + (sources + targets) * 2 ≤ length (now src)) ⌝ }
+fn put_edge(room: &mut [u8], src: &[u8], r: Row, e: EdgeAt, k: usize, vertex: usize)
+    requires { ⌜ (65536 ≤ length (now room)) × (k + (e .sources + e .targets) ≤ 8192) × (vertex < 65536) × Holds (now src) r (e .first + e .sources + e .targets) ⌝ }
     ensures { λ _. ⌜ Appended (words (now (room .entry))) (words (now (room .exit))) k vertex
-        (numbers 2 sources (drop at (now (src .entry)))) (numbers 2 targets (drop (at + sources * 2) (now (src .entry)))) ⌝ }
+        (span (now (src .entry)) r (e .first) (e .sources)) (span (now (src .entry)) r (e .first + e .sources) (e .targets)) ⌝ }
 {
     let v = vertex as u32;
-    put_ids(room, FROM + k, src, at, sources);
-    put_same(room, TO + k, sources, v);
-    put_same(room, FROM + k + sources, targets, v);
+    put_ids(room, FROM + k, src, r, e.first, e.sources);
+    put_same(room, TO + k, e.sources, v);
+    put_same(room, FROM + k + e.sources, e.targets, v);
     put_ids(
         room,
-        TO + k + sources,
+        TO + k + e.sources,
         src,
-        at + sources * form::WIDTH,
-        targets,
+        r,
+        e.first + e.sources,
+        e.targets,
     );
 }
 
 // The arcs of all edges, and how many there are.
-fn list_arcs(room: &mut [u8], src: &[u8], nodes: usize, edges: usize) -> usize
-    requires { ⌜ (65536 ≤ length (now room)) ⌝ }
-    requires { ⌜ Drawn (now src) nodes edges ⌝ }
+fn list_arcs(room: &mut [u8], src: &[u8], z: Sizes) -> usize
+    requires { ⌜ 65536 ≤ length (now room) ⌝ }
+    requires { ⌜ Stored (now src) z ⌝ }
     ensures { λ r. ⌜ AllListed (now (src .entry)) (words (now (room .exit))) r ⌝ }
 {
-    let mut at = graph::HEADER_BYTES + (nodes + edges) * 4;
+    let row = form::body_row(z);
+    let mut at: usize = 0;
     let mut k: usize = 0;
-    for e in 0..edges {
-        let sources = form::count_at(src, at);
-        let targets = form::count_at(src, at + form::WIDTH);
-        let entries = at + 2 * form::WIDTH;
-        put_edge(room, src, entries, k, nodes + e, sources, targets);
-        at = entries + (sources + targets) * form::WIDTH;
-        k = k + (sources + targets);
+    for i in 0..z.edges {
+        let e = form::edge_at(src, row, at);
+        put_edge(room, src, row, e, k, z.nodes + i);
+        at = e.end;
+        k = k + (e.sources + e.targets);
     }
     k
 }
@@ -168,13 +165,13 @@ fn group(room: &mut [u8], near: usize, far: usize, degree: usize, lists: usize, 
 }
 
 // The incidence graph of a stored drawing; answered is how many arcs it has.
-pub fn build(room: &mut [u8], src: &[u8], nodes: usize, edges: usize) -> usize
+pub fn build(room: &mut [u8], src: &[u8], z: Sizes) -> usize
     requires { ⌜ 253952 ≤ length (now room) ⌝ }
-    requires { ⌜ Drawn (now src) nodes edges ⌝ }
-    ensures { λ r. ⌜ Built (now (src .entry)) (words (now (room .exit))) (nodes + edges) r ⌝ }
+    requires { ⌜ Stored (now src) z ⌝ }
+    ensures { λ r. ⌜ Built (now (src .entry)) (words (now (room .exit))) (z .nodes + z .edges) r ⌝ }
 {
-    let m = list_arcs(room, src, nodes, edges);
-    let n = nodes + edges;
+    let m = list_arcs(room, src, z);
+    let n = z.nodes + z.edges;
     group(room, FROM, TO, OUTDEGREE, OUTGOING, n, m);
     group(room, TO, FROM, INDEGREE, INCOMING, n, m);
     m

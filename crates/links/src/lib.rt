@@ -1,15 +1,18 @@
 // The table of spiderizing in the lent work room: which nodes are listed, and for each listed node and kind of entry the chain of its fresh nodes.
-// A cell is a number of 2 bytes. Node x has the four cells from 4 x on, one for each kind of entry: the fresh node that came last, 0 where there is none.
-// A node that is not listed has 65535 there. Fresh node f has the cell at 3 nodes + f: the fresh node before it in its chain, or 0.
+// The room is a row of cells. Node x has the four cells from 4 x on, one for each kind of entry: the fresh node that came last, 0 where there is none.
+// A node that is not listed has the highest number of a cell there. Fresh node f has the cell at 3 nodes + f: the fresh node before it in its chain, or 0.
 ghost use mathlib.Core.Path.{_≡_};
 ghost use mathlib.Core.Bool.{true, false};
-ghost use mathlib.Core.List.{List, [], _∷_};
-ghost use Prim.Native.Nat.{ℕ, _+_, _*_, _-_, _<_, _≤_};
+ghost use mathlib.Core.List.{List, [], _∷_, _++_};
+ghost use Prim.Native.Nat.{ℕ, _+_, _*_, _-_, _<_, _≤_, _^_};
 ghost use lib.ListN.{length, getD, set, replicate};
 ghost use lib.Seq.{sets};
-ghost use Rattle.le.specs.Le.{Below, numbers, row};
+ghost use Rattle.le.specs.Le.{Below};
+ghost use Rattle.le.specs.Rows.{Holds, span, puts};
 ghost use Rattle.graph.specs.Lists.{among, keep, range};
-ghost use Rattle.links.specs.Links.{cells, marked, Heads, Chained, Linked, leftRow, rightRow, ofNode, spiders};
+ghost use Rattle.write.specs.Write.{Put};
+ghost use Rattle.links.specs.Links.{cellRow, cellCount, cells, unlisted, isListed, Heads, linkedTo, Chain, Table, itself, spiderRow, spidersOf, spiders};
+use le::Row;
 
 // The kinds of entries a node can have.
 pub const GLOBAL_SOURCE: usize = 0;
@@ -20,94 +23,96 @@ pub const EDGE_TARGET: usize = 2;
 
 pub const GLOBAL_TARGET: usize = 3;
 
+// The bytes of a cell.
+const CELL: usize = 2;
+
+// The row that the cells are.
+fn cell_row() -> Row
+    ensures { λ r. ⌜ r ≡ cellRow ⌝ }
+{
+    Row { at: 0, width: CELL }
+}
+
 // What the cells of a node hold that is not listed.
-pub const UNLISTED: usize = 65535;
+fn unlisted() -> usize
+    ensures { λ r. ⌜ r ≡ unlisted ⌝ }
+{
+    form::highest(CELL)
+}
 
 // The cell at i.
 fn cell(room: &[u8], i: usize) -> usize
-    requires { ⌜ i * 2 + 2 ≤ length (now room) ⌝ }
-    ensures { λ r. ⌜ (r ≡ getD (cells (now (room .entry))) i 0) × (r < 65536) ⌝ }
+    requires { ⌜ i < cellCount (now room) ⌝ }
+    ensures { λ r. ⌜ (r ≡ getD (cells (now (room .entry))) i 0) × (r ≤ unlisted) ⌝ }
 {
-    le::get2(room, i * 2) as usize
+    le::number(room, cell_row(), i)
 }
 
 // v as the cell at i.
 fn set_cell(room: &mut [u8], i: usize, v: usize)
-    requires { ⌜ (i * 2 + 2 ≤ length (now room)) × (v < 65536) ⌝ }
+    requires { ⌜ (i < cellCount (now room)) × (v ≤ unlisted) ⌝ }
     ensures { λ _. ⌜ cells (now (room .exit)) ≡ set (cells (now (room .entry))) i v ⌝ }
 {
-    le::put2(room, i * 2, v as u32);
+    le::put_number(room, cell_row(), i, v);
 }
 
-// v in the first n cells.
-fn fill(room: &mut [u8], n: usize, v: usize)
-    requires { ⌜ (n * 2 ≤ length (now room)) × (v < 65536) ⌝ }
-    ensures { λ _. ⌜ cells (now (room .exit)) ≡ sets (cells (now (room .entry))) 0 (replicate n v) ⌝ }
+// v in n cells from a cell on.
+fn fill(room: &mut [u8], from: usize, n: usize, v: usize)
+    requires { ⌜ (from + n ≤ cellCount (now room)) × (v ≤ unlisted) ⌝ }
+    ensures { λ _. ⌜ cells (now (room .exit)) ≡ sets (cells (now (room .entry))) from (replicate n v) ⌝ }
 {
     for k in 0..n {
-        set_cell(room, k, v);
+        set_cell(room, from + k, v);
     }
 }
 
 // No node is listed.
 pub fn list_none(room: &mut [u8], nodes: usize)
-    requires { ⌜ nodes * 8 ≤ length (now room) ⌝ }
+    requires { ⌜ nodes * 4 ≤ cellCount (now room) ⌝ }
     ensures { λ _. ⌜ Heads nodes (cells (now (room .exit))) (λ x. false) ⌝ }
 {
-    fill(room, nodes * 4, UNLISTED);
+    fill(room, 0, nodes * 4, unlisted());
 }
 
 // Every node is listed, and has no fresh node yet.
 pub fn list_all(room: &mut [u8], nodes: usize)
-    requires { ⌜ nodes * 8 ≤ length (now room) ⌝ }
+    requires { ⌜ nodes * 4 ≤ cellCount (now room) ⌝ }
     ensures { λ _. ⌜ Heads nodes (cells (now (room .exit))) (λ x. true) ⌝ }
 {
-    fill(room, nodes * 4, 0);
+    fill(room, 0, nodes * 4, 0);
 }
 
-// The node is listed, and has no fresh node yet.
-fn list_one(room: &mut [u8], id: usize)
-    requires { ⌜ id * 8 + 8 ≤ length (now room) ⌝ }
-    ensures { λ _. ⌜ cells (now (room .exit)) ≡ set (set (set (set (cells (now (room .entry))) (id * 4) 0) (id * 4 + 1) 0) (id * 4 + 2) 0) (id * 4 + 3) 0 ⌝ }
-{
-    let at = id * 4;
-    set_cell(room, at, 0);
-    set_cell(room, at + 1, 0);
-    set_cell(room, at + 2, 0);
-    set_cell(room, at + 3, 0);
-}
-
-// The nodes of a list of n ids are listed.
-pub fn list_ids(room: &mut [u8], ids: &[u8], n: usize, nodes: usize)
-    requires { ⌜ (n * 2 ≤ length (now ids)) × Below nodes (numbers 2 n (now ids)) × (nodes * 8 ≤ length (now room)) ⌝ }
-    ensures { λ _. ⌜ (Heads nodes (cells (now (room .entry))) (λ x. false) → Heads nodes (cells (now (room .exit))) (among (numbers 2 n (now (ids .entry))))) ⌝ }
+// The nodes of the first n ids of a row are listed.
+pub fn list_ids(room: &mut [u8], ids: &[u8], r: Row, n: usize, nodes: usize)
+    requires { ⌜ Holds (now ids) r n × Below nodes (span (now ids) r 0 n) × (nodes * 4 ≤ cellCount (now room)) ⌝ }
+    ensures { λ _. ⌜ (Heads nodes (cells (now (room .entry))) (λ x. false) → Heads nodes (cells (now (room .exit))) (among (span (now (ids .entry)) r 0 n))) ⌝ }
 {
     for j in 0..n {
-        let id = le::get2(ids, j * form::WIDTH) as usize;
-        list_one(room, id);
+        let id = le::number(ids, r, j);
+        fill(room, id * 4, 4, 0);
     }
 }
 
 // Whether a node is listed.
 pub fn listed(room: &[u8], id: usize) -> bool
-    requires { ⌜ id * 8 + 8 ≤ length (now room) ⌝ }
-    ensures { λ r. ⌜ ((nodes : ℕ) → id < nodes → r ≡ marked nodes (cells (now (room .entry))) id) ⌝ }
+    requires { ⌜ id * 4 < cellCount (now room) ⌝ }
+    ensures { λ r. ⌜ ((nodes : ℕ) → id < nodes → r ≡ isListed nodes (cells (now (room .entry))) id) ⌝ }
 {
-    cell(room, id * 4) != UNLISTED
+    cell(room, id * 4) != unlisted()
 }
 
 // 1 for a listed node, 0 for any other.
 pub fn one_if_listed(room: &[u8], id: usize) -> usize
-    requires { ⌜ id * 8 + 8 ≤ length (now room) ⌝ }
-    ensures { λ r. ⌜ (r ≤ 1) × ((nodes : ℕ) → id < nodes → r ≡ length (keep (marked nodes (cells (now (room .entry)))) (id ∷ []))) ⌝ }
+    requires { ⌜ id * 4 < cellCount (now room) ⌝ }
+    ensures { λ r. ⌜ (r ≤ 1) × ((nodes : ℕ) → id < nodes → r ≡ length (keep (isListed nodes (cells (now (room .entry)))) (id ∷ []))) ⌝ }
 {
     if listed(room, id) { 1 } else { 0 }
 }
 
 // How many nodes are listed.
 pub fn count_listed(room: &[u8], nodes: usize) -> usize
-    requires { ⌜ nodes * 8 ≤ length (now room) ⌝ }
-    ensures { λ r. ⌜ r ≡ length (keep (marked nodes (cells (now (room .entry)))) (range 0 nodes)) ⌝ }
+    requires { ⌜ nodes * 4 ≤ cellCount (now room) ⌝ }
+    ensures { λ r. ⌜ (r ≡ length (keep (isListed nodes (cells (now (room .entry)))) (range 0 nodes))) × (r ≤ nodes) ⌝ }
 {
     let mut n: usize = 0;
     for id in 0..nodes {
@@ -118,8 +123,8 @@ pub fn count_listed(room: &[u8], nodes: usize) -> usize
 
 // A fresh node, for an entry of this kind of a listed node: it goes in front of the chain.
 pub fn link(room: &mut [u8], nodes: usize, id: usize, kind: usize, fresh: usize)
-    requires { ⌜ (id < nodes) × (kind < 4) × (nodes ≤ fresh) × (fresh < 65535) × ((nodes * 3 + fresh) * 2 + 2 ≤ length (now room)) ⌝ }
-    ensures { λ _. ⌜ cells (now (room .exit)) ≡ set (set (cells (now (room .entry))) (nodes * 3 + fresh) (getD (cells (now (room .entry))) (id * 4 + kind) 0)) (id * 4 + kind) fresh ⌝ }
+    requires { ⌜ (id < nodes) × (kind < 4) × (nodes ≤ fresh) × (fresh < unlisted) × (nodes * 3 + fresh < cellCount (now room)) ⌝ }
+    ensures { λ _. ⌜ cells (now (room .exit)) ≡ linkedTo nodes id kind fresh (cells (now (room .entry))) ⌝ }
 {
     let head = id * 4 + kind;
     let before = cell(room, head);
@@ -129,9 +134,8 @@ pub fn link(room: &mut [u8], nodes: usize, id: usize, kind: usize, fresh: usize)
 
 // How many fresh nodes the chain has that starts in a cell.
 fn chain_length(room: &[u8], nodes: usize, head: usize) -> usize
-    requires { ⌜ (head * 2 + 2 ≤ length (now room)) × ((nodes * 3 + 2048) * 2 ≤ length (now room)) × (nodes ≤ 2048) ⌝ }
-    requires { ⌜ ((es : List ℕ) × Chained nodes (cells (now room)) 2048 (getD (cells (now room)) head 0) es) ⌝ }
-    ensures { λ r. ⌜ ((es : List ℕ) → Chained nodes (cells (now (room .entry))) 2048 (getD (cells (now (room .entry))) head 0) es → r ≡ length es) ⌝ }
+    requires { ⌜ ((es : List ℕ) × Chain nodes (now room) head es) ⌝ }
+    ensures { λ r. ⌜ ((es : List ℕ) → Chain nodes (now (room .entry)) head es → r ≡ length es) × (r ≤ unlisted) ⌝ }
 {
     let mut n: usize = 0;
     let mut f = cell(room, head);
@@ -142,89 +146,99 @@ fn chain_length(room: &[u8], nodes: usize, head: usize) -> usize
     n
 }
 
-// The fresh nodes of the chain that starts in a cell, in the order in which they came, so that they end at a place.
-fn put_chain(room: &[u8], nodes: usize, head: usize, out: &mut [u8], end: usize)
-    requires { ⌜ (head * 2 + 2 ≤ length (now room)) × ((nodes * 3 + 2048) * 2 ≤ length (now room)) × (nodes ≤ 2048) × (end ≤ length (now out)) ⌝ }
-    requires { ⌜ ((es : List ℕ) × Chained nodes (cells (now room)) 2048 (getD (cells (now room)) head 0) es × (length es * 2 ≤ end)) ⌝ }
-    ensures { λ _. ⌜ ((es : List ℕ) → Chained nodes (cells (now (room .entry))) 2048 (getD (cells (now (room .entry))) head 0) es
-        → now (out .exit) ≡ sets (now (out .entry)) (end - length es * 2) (row 2 es)) ⌝ }
+// The fresh nodes of the chain that starts in a cell, in the order in which they came, into a row so that they end at an index.
+fn put_chain(room: &[u8], nodes: usize, head: usize, out: &mut [u8], r: Row, end: usize)
+    requires { ⌜ ((es : List ℕ) × Chain nodes (now room) head es × (length es ≤ end)) × Holds (now out) r end ⌝ }
+    ensures { λ _. ⌜ ((es : List ℕ) → Chain nodes (now (room .entry)) head es → now (out .exit) ≡ puts (now (out .entry)) r (end - length es) es) ⌝ }
 {
     let mut at = end;
     let mut f = cell(room, head);
     while f != 0 {
-        at = at - 2;
-        le::put2(out, at, f as u32);
+        at = at - 1;
+        le::put_number(out, r, at, f);
         f = cell(room, nodes * 3 + f);
     }
 }
 
-// The left spider of a node at a place: its global source entries, to the node itself followed by its edge source entries. Answered is the next place.
-fn put_left(room: &[u8], nodes: usize, id: usize, out: &mut [u8], at: usize) -> usize
-    requires { ⌜ (id < nodes) × ((nodes * 3 + 2048) * 2 ≤ length (now room)) × (nodes ≤ 2048) ⌝ }
-    requires { ⌜ ((a : List ℕ) × (b : List ℕ) × Chained nodes (cells (now room)) 2048 (getD (cells (now room)) (id * 4 + 0) 0) a
-        × Chained nodes (cells (now room)) 2048 (getD (cells (now room)) (id * 4 + 1) 0) b × (length a < 65536) × (length b < 65535) × (at + 6 + length a * 2 + length b * 2 ≤ length (now out))) ⌝ }
-    ensures { λ r. ⌜ ((a b : List ℕ) → Chained nodes (cells (now (room .entry))) 2048 (getD (cells (now (room .entry))) (id * 4 + 0) 0) a
-        → Chained nodes (cells (now (room .entry))) 2048 (getD (cells (now (room .entry))) (id * 4 + 1) 0) b
-        → (r ≡ at + 6 + length a * 2 + length b * 2) × (now (out .exit) ≡ sets (now (out .entry)) at (leftRow id a b))) ⌝ }
+// The node itself as number k of a row, where it stands on this side of a spider. Answered is the next index.
+fn put_itself(out: &mut [u8], r: Row, k: usize, id: usize, here: bool) -> usize
+    requires { ⌜ Holds (now out) r (k + length (itself here id)) × (id < 2 ^ 32) ⌝ }
+    ensures { λ n. ⌜ Put (now (out .entry)) r k (itself here id) (now (out .exit)) n ⌝ }
 {
-    let head = id * 4 + GLOBAL_SOURCE;
-    let tail = id * 4 + EDGE_SOURCE;
-    let a = chain_length(room, nodes, head);
-    let b = chain_length(room, nodes, tail);
-    form::put_two(out, at, a, 1 + b);
-    let middle = at + 4 + a * form::WIDTH;
-    put_chain(room, nodes, head, out, middle);
-    le::put2(out, middle, id as u32);
-    let end = middle + form::WIDTH + b * form::WIDTH;
-    put_chain(room, nodes, tail, out, end);
+    if !here {
+        return k;
+    }
+    le::put_number(out, r, k, id);
+    k + 1
+}
+
+// One side of a spider into a row: the node itself, if it stands there, and the n fresh nodes of a chain. Answered is the next index.
+fn put_side(
+    room: &[u8],
+    nodes: usize,
+    head: usize,
+    n: usize,
+    id: usize,
+    here: bool,
+    out: &mut [u8],
+    r: Row,
+    k: usize,
+) -> usize
+    requires { ⌜ ((es : List ℕ) × Chain nodes (now room) head es × (n ≡ length es) × Holds (now out) r (k + length (itself here id ++ es))) × (id < 2 ^ 32) ⌝ }
+    ensures { λ m. ⌜ ((es : List ℕ) → Chain nodes (now (room .entry)) head es → n ≡ length es → Put (now (out .entry)) r k (itself here id ++ es) (now (out .exit)) m) ⌝ }
+{
+    let end = put_itself(out, r, k, id, here) + n;
+    put_chain(room, nodes, head, out, r, end);
     end
 }
 
-// The right spider of a node at a place: the node itself followed by its edge target entries, to its global target entries. Answered is the next place.
-fn put_right(room: &[u8], nodes: usize, id: usize, out: &mut [u8], at: usize) -> usize
-    requires { ⌜ (id < nodes) × ((nodes * 3 + 2048) * 2 ≤ length (now room)) × (nodes ≤ 2048) ⌝ }
-    requires { ⌜ ((a : List ℕ) × (b : List ℕ) × Chained nodes (cells (now room)) 2048 (getD (cells (now room)) (id * 4 + 2) 0) a
-        × Chained nodes (cells (now room)) 2048 (getD (cells (now room)) (id * 4 + 3) 0) b × (length a < 65535) × (length b < 65536) × (at + 6 + length a * 2 + length b * 2 ≤ length (now out))) ⌝ }
-    ensures { λ r. ⌜ ((a b : List ℕ) → Chained nodes (cells (now (room .entry))) 2048 (getD (cells (now (room .entry))) (id * 4 + 2) 0) a
-        → Chained nodes (cells (now (room .entry))) 2048 (getD (cells (now (room .entry))) (id * 4 + 3) 0) b
-        → (r ≡ at + 6 + length a * 2 + length b * 2) × (now (out .exit) ≡ sets (now (out .entry)) at (rightRow id a b))) ⌝ }
+// A spider of a node into a row, from its entries of this kind to those of the next: the node itself stands before the first or before the second. Answered is the next index.
+fn put_chains(
+    room: &[u8],
+    nodes: usize,
+    id: usize,
+    kind: usize,
+    first: bool,
+    out: &mut [u8],
+    r: Row,
+    k: usize,
+) -> usize
+    requires { ⌜ ((a : List ℕ) × (b : List ℕ) × Chain nodes (now room) (id * 4 + kind) a × Chain nodes (now room) (id * 4 + (kind + 1)) b × Holds (now out) r (k + length (spiderRow first id a b))) × (id < 2 ^ 32) ⌝ }
+    ensures { λ n. ⌜ ((a b : List ℕ) → Chain nodes (now (room .entry)) (id * 4 + kind) a → Chain nodes (now (room .entry)) (id * 4 + (kind + 1)) b
+        → Put (now (out .entry)) r k (spiderRow first id a b) (now (out .exit)) n) ⌝ }
 {
-    let head = id * 4 + EDGE_TARGET;
-    let tail = id * 4 + GLOBAL_TARGET;
+    let head = id * 4 + kind;
+    let tail = id * 4 + (kind + 1);
     let a = chain_length(room, nodes, head);
     let b = chain_length(room, nodes, tail);
-    form::put_two(out, at, 1 + a, b);
-    le::put2(out, at + 4, id as u32);
-    let middle = at + 6 + a * form::WIDTH;
-    put_chain(room, nodes, head, out, middle);
-    let end = middle + b * form::WIDTH;
-    put_chain(room, nodes, tail, out, end);
-    end
+    let second = !first;
+    write::put_two(out, r, k, a + (first as usize), b + (second as usize));
+    let middle = put_side(room, nodes, head, a, id, first, out, r, k + 2);
+    put_side(room, nodes, tail, b, id, second, out, r, middle)
 }
 
-// The two spiders of a node at a place, if it is listed. Answered is the next place.
-fn put_spider(room: &[u8], nodes: usize, id: usize, out: &mut [u8], at: usize) -> usize
-    requires { ⌜ (id < nodes) × ((nodes * 3 + 2048) * 2 ≤ length (now room)) × (nodes ≤ 2048) ⌝ }
-    requires { ⌜ ((fresh : ℕ → ℕ → List ℕ) × Linked nodes (cells (now room)) 2048 fresh × (at + length (ofNode nodes (cells (now room)) fresh id) ≤ length (now out))) ⌝ }
-    ensures { λ r. ⌜ ((fresh : ℕ → ℕ → List ℕ) → Linked nodes (cells (now (room .entry))) 2048 fresh
-        → (r ≡ at + length (ofNode nodes (cells (now (room .entry))) fresh id)) × (now (out .exit) ≡ sets (now (out .entry)) at (ofNode nodes (cells (now (room .entry))) fresh id))) ⌝ }
+// The two spiders of a node into a row, if it is listed. Answered is the next index.
+fn put_spider(room: &[u8], nodes: usize, id: usize, out: &mut [u8], r: Row, k: usize) -> usize
+    requires { ⌜ (id < nodes) × (id < 2 ^ 32) × ((fresh : ℕ → ℕ → List ℕ) × Table nodes (now room) fresh × Holds (now out) r (k + length (spidersOf nodes (cells (now room)) fresh (id ∷ [])))) ⌝ }
+    ensures { λ n. ⌜ ((fresh : ℕ → ℕ → List ℕ) → Table nodes (now (room .entry)) fresh
+        → Put (now (out .entry)) r k (spidersOf nodes (cells (now (room .entry))) fresh (id ∷ [])) (now (out .exit)) n) ⌝ }
 {
     if !listed(room, id) {
-        return at;
+        return k;
     }
-    let next = put_left(room, nodes, id, out, at);
-    put_right(room, nodes, id, out, next)
+    let next = put_chains(room, nodes, id, GLOBAL_SOURCE, false, out, r, k);
+    put_chains(room, nodes, id, EDGE_TARGET, true, out, r, next)
 }
 
-// The spiders of all listed nodes, in ascending order, from a place on.
-pub fn put_spiders(room: &[u8], nodes: usize, out: &mut [u8], start: usize)
-    requires { ⌜ ((nodes * 3 + 2048) * 2 ≤ length (now room)) × (nodes ≤ 2048) ⌝ }
-    requires { ⌜ ((fresh : ℕ → ℕ → List ℕ) × Linked nodes (cells (now room)) 2048 fresh × (start + length (spiders nodes (cells (now room)) fresh nodes) ≤ length (now out))) ⌝ }
-    ensures { λ _. ⌜ ((fresh : ℕ → ℕ → List ℕ) → Linked nodes (cells (now (room .entry))) 2048 fresh
-        → now (out .exit) ≡ sets (now (out .entry)) start (spiders nodes (cells (now (room .entry))) fresh nodes)) ⌝ }
+// The spiders of all listed nodes, in ascending order, into a row from an index on. Answered is the next index.
+pub fn put_spiders(room: &[u8], nodes: usize, out: &mut [u8], r: Row, start: usize) -> usize
+    requires { ⌜ (nodes ≤ 2 ^ 32) × ((fresh : ℕ → ℕ → List ℕ) × Table nodes (now room) fresh × Holds (now out) r (start + length (spiders nodes (cells (now room)) fresh nodes))) ⌝ }
+    ensures { λ n. ⌜ ((fresh : ℕ → ℕ → List ℕ) → Table nodes (now (room .entry)) fresh
+        → Put (now (out .entry)) r start (spiders nodes (cells (now (room .entry))) fresh nodes) (now (out .exit)) n) ⌝ }
 {
-    let mut at = start;
+    let mut k = start;
     for id in 0..nodes {
-        at = put_spider(room, nodes, id, out, at);
+        k = put_spider(room, nodes, id, out, r, k);
     }
+    k
 }

@@ -1,2 +1,2 @@
-pub mod Ids
-pub mod Packs
+pub mod Ranges
+pub mod Packing

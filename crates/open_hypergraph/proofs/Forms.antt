@@ -1,101 +1,87 @@
--- The forms of the open graphs made from nothing, as they are written part by part, their sizes, and what the two calls make.
+-- The two graphs as they are written: labels, and the numbers after them; their sizes, and the steps that make them.
 -- Assumes nothing.
 use mathlib.Core.List.{List, [], _∷_, _++_, append-nil}
-use mathlib.Core.Path.{_≡_, sym, ap, _∙_}
+use mathlib.Core.Path.{_≡_, refl, sym, ap, _∙_}
 use Prim.Native.Nat.{ℕ, _+_}
 use native.Mathlib.Nat.{zero-add}
 use native.Mathlib.Omega.{arith}
 use lib.ListN.{length, length-append}
-use Rattle.form.specs.Form.{countsOf, sizesOf}
+use Rattle.le.specs.Rows.{rowAt, puts}
+use Rattle.le.proofs.Rows.{length-span}
+use Rattle.graph.specs.Answer as answer
 use Rattle.graph.specs.Answer.{refused, answered}
 use Rattle.graph.specs.Build.{identity, singleton, newOperation, newEdge}
-use Rattle.graph.specs.Calls.{made, labelList, onNothing, identityStep, singletonStep}
-use Rattle.graph.specs.Form.{header, edgeBytes, encode}
-use Rattle.graph.specs.Graph.{Edge, form1}
+use Rattle.graph.specs.Calls.{labelList, identityStep, singletonStep}
+use Rattle.graph.specs.Form.{labelRow, body}
 use Rattle.graph.specs.Lists.{range}
-use Rattle.le.specs.Le.{bytes, row}
-use Rattle.graph.proofs.Steps.{stops, goes}
-use Rattle.graph.proofs.Verdicts.{nothing-made, nothing-stopped}
-use Rattle.hypergraph.proofs.Calls.{next}
-use Rattle.hypergraph.proofs.Forms.{sizes, headed}
+use Rattle.graph.specs.Versions.{fitting}
 use Rattle.graph.proofs.Lists.{length-range, range-add}
-use Rattle.le.proofs.Numbers.{row-append}
+use Rattle.graph.proofs.Steps.{stops, goes}
+use Rattle.form.specs.Form.{sizesOf, labelsOf, bodyOf}
+use Rattle.form.specs.declared.Sizes.{Sizes}
+use Rattle.write.specs.Write.{countedAs, fitted, drawn}
+use Rattle.write.proofs.Results.{drawn-labels, drawn-numbers}
+use Rattle.hypergraph.specs.Lent.{lent}
+use Rattle.hypergraph.proofs.Calls.{next}
 
--- ---- identity
-
-module _ (labels : List ℕ) (n : ℕ) (many : length labels ≡ n) where
-  pub identity-sizes : sizesOf (identity labels) ≡ sizes n 0 0 n n 0
+module _ (old : List ℕ) (y : Sizes) where
+  pub identity-drawn : (n : ℕ) (ls : List ℕ) → length ls ≡ n
+      → puts (puts (drawn old y ls []) (bodyOf y) 0 (range 0 n)) (bodyOf y) n (range 0 n) ≡ drawn old y (labelRow (identity ls)) (body (identity ls))
   unfolding identity
-  identity-sizes = rw (length-range 0 (length labels), many)
+  identity-drawn n ls e =
+      rw (drawn-numbers old y ls [] (range 0 n) 0 refl, drawn-numbers old y ls (range 0 n) (range 0 n) n (sym (length-range 0 n)), e, append-nil ls, append-nil (range 0 n))
 
-  pub identity-form : (b : List ℕ) → row 4 labels ≡ b
-      → header form1 (countsOf (sizes n 0 0 n n 0)) ++ (b ++ (row 2 (range 0 n) ++ row 2 (range 0 n))) ≡ encode form1 (identity labels)
-  unfolding identity
-  identity-form b p =
-      headed (identity labels) (sizes n 0 0 n n 0) _ identity-sizes
-      (ap (λ (l : List ℕ). l ++ (row 2 (range 0 n) ++ row 2 (range 0 n))) (sym p)
-      ∙ ap (λ (k : ℕ). row 4 labels ++ (row 2 (range 0 k) ++ row 2 (range 0 k))) (sym many)
-      ∙ ap (λ (l : List ℕ). row 4 labels ++ (row 2 (range 0 (length labels)) ++ l)) (sym (append-nil (row 2 (range 0 (length labels))))))
-
-module _ (room : ℕ) (b : List ℕ) where
-  pub identity-7 : (n : ℕ) → labelList b ≡ refused n → onNothing form1 room (identityStep b) ≡ refused n
-  unfolding identityStep
-  identity-7 n e = nothing-stopped form1 room (identityStep b) n (stops _ e)
-
-  pub identity-made : (labels : List ℕ) → labelList b ≡ answered labels → onNothing form1 room (identityStep b) ≡ made form1 room (next (identity labels) 0)
-  unfolding identityStep
-  identity-made labels e = nothing-made form1 room (identityStep b) (next (identity labels) 0) (goes _ e)
-
--- ---- singleton
-
-module _ (label : ℕ) (ss ts : List ℕ) (m n : ℕ) (is-m : length ss ≡ m) (is-n : length ts ≡ n) where
-  pub singleton-sizes : sizesOf (singleton label ss ts) ≡ sizes (m + n) 1 (m + n) m n 0
+  pub singleton-drawn : (label s t : ℕ) (ss ts : List ℕ) → length ss ≡ s → length ts ≡ t
+      → puts (puts (puts (puts (puts (drawn old y ss []) (labelsOf y) s ts) (labelsOf y) (s + t) (label ∷ [])) (bodyOf y) 0 (s ∷ t ∷ [])) (bodyOf y) 2 (range 0 (s + t)))
+      (bodyOf y) (2 + (s + t)) (range 0 (s + t)) ≡ drawn old y (labelRow (singleton label ss ts)) (body (singleton label ss ts))
   unfolding singleton newOperation newEdge
-  singleton-sizes =
+  singleton-drawn label s t ss ts e f =
+      let ls = (ss ++ ts) ++ (label ∷ []) in
+      let ids = range 0 (s + t) in
+      let many : s + t ≡ length (ss ++ ts) = simp length-append (omega arith) in
+      let numbers : 2 + (s + t) ≡ length (s ∷ t ∷ ids) = omega (arith, length-range 0 (s + t)) in
+      let same : (s ∷ t ∷ ids) ++ ids ≡ body (singleton label ss ts) =
+      rw (e, f, length-range 0 s, length-range (0 + s) t, range-add 0 s t, zero-add s, append-nil (range 0 s ++ range s t), append-nil (range s t)) in
       rw (
-        zero-add (length ss),
-        append-nil (range 0 (length ss) ++ range (length ss) (length ts)),
-        length-append (range 0 (length ss)) (range (length ss) (length ts)),
-        length-append ss ts,
-        length-range 0 (length ss),
-        length-range (length ss) (length ts),
-        is-m,
-        is-n,
-      )
+        drawn-labels old y ss ts s (sym e),
+        drawn-labels old y (ss ++ ts) (label ∷ []) (s + t) many,
+        drawn-numbers old y ls [] (s ∷ t ∷ []) 0 refl,
+        drawn-numbers old y ls (s ∷ t ∷ []) ids 2 refl,
+        drawn-numbers old y ls (s ∷ t ∷ ids) ids (2 + (s + t)) numbers,
+      ) (ap (drawn old y ls) same)
 
-  pub singleton-form : (a c : List ℕ) → row 4 ss ≡ a → row 4 ts ≡ c
-      → header form1 (countsOf (sizes (m + n) 1 (m + n) m n 0))
-      ++ ((a ++ c) ++ (bytes 4 label ++ (row 2 (m ∷ n ∷ range 0 (m + n)) ++ row 2 (range 0 (m + n))))) ≡ encode form1 (singleton label ss ts)
-  unfolding singleton newOperation newEdge
-  singleton-form a c p q =
-      let e : Edge = record { label = label; sources = range 0 (length ss); targets = range (0 + length ss) (length ts) } in
-      let sum : m + n ≡ length ss + length ts = omega arith in
-      let ids : range 0 (m + n) ≡ range 0 (length ss) ++ range (length ss) (length ts) =
-      ap (range 0) sum ∙ range-add 0 (length ss) (length ts) ∙ ap (λ (k : ℕ). range 0 (length ss) ++ range k (length ts)) (zero-add (length ss)) in
-      let new : row 2 (m ∷ n ∷ range 0 (m + n)) ≡ edgeBytes form1 e =
-      ap (λ (l : List ℕ). row 2 (m ∷ n ∷ l)) (ids ∙ ap (λ (k : ℕ). range 0 (length ss) ++ range k (length ts)) (sym (zero-add (length ss))))
-      ∙ ap (λ (k : ℕ). row 2 (k ∷ n ∷ (range 0 (length ss) ++ range (0 + length ss) (length ts)))) (sym (length-range 0 (length ss) ∙ is-m))
-      ∙ ap (λ (k : ℕ). row 2 (length (range 0 (length ss)) ∷ k ∷ (range 0 (length ss) ++ range (0 + length ss) (length ts)))) (sym (length-range (0 + length ss) (length ts) ∙ is-n)) in
-      let labels : a ++ c ≡ row 4 (ss ++ ts) = sym (row-append 4 ss ts ∙ rw (p, q)) in
-      let ends : row 2 (range 0 (m + n)) ≡ row 2 (range 0 (length ss)) ++ (row 2 (range (length ss) (length ts)) ++ []) =
-      ap (row 2) ids ∙ row-append 2 (range 0 (length ss)) (range (length ss) (length ts))
-      ∙ ap (λ (l : List ℕ). row 2 (range 0 (length ss)) ++ l) (sym (append-nil (row 2 (range (length ss) (length ts))))) in
-      headed (singleton label ss ts) (sizes (m + n) 1 (m + n) m n 0) _ singleton-sizes
-      (ap (λ (l : List ℕ). l ++ (bytes 4 label ++ (row 2 (m ∷ n ∷ range 0 (m + n)) ++ row 2 (range 0 (m + n))))) labels
-      ∙ ap (λ (l : List ℕ). row 4 (ss ++ ts) ++ (bytes 4 label ++ (l ++ row 2 (range 0 (m + n))))) new
-      ∙ ap (λ (l : List ℕ). row 4 (ss ++ ts) ++ (bytes 4 label ++ (edgeBytes form1 e ++ l))) ends
-      ∙ ap (λ (l : List ℕ). row 4 (ss ++ ts) ++ (bytes 4 label ++ (l ++ (row 2 (range 0 (length ss)) ++ (row 2 (range (length ss) (length ts)) ++ []))))) (sym (append-nil (edgeBytes form1 e))))
+-- ---- the calls
 
-module _ (room label : ℕ) (sources targets : List ℕ) where
-  pub singleton-sources-7 : (n : ℕ) → labelList sources ≡ refused n → onNothing form1 room (singletonStep label sources targets) ≡ refused n
+module _ (b : List ℕ) where
+  pub identity-stopped : {r : answer.Refusal} → labelList b ≡ refused r → identityStep b ≡ refused r
+  unfolding identityStep
+  identity-stopped e = stops _ e
+
+  pub identity-next : {l : List ℕ} → labelList b ≡ answered l → identityStep b ≡ answered (next (identity l) 0)
+  unfolding identityStep
+  identity-next e = goes _ e
+
+pub identity-sizes : (b : List ℕ) (n : ℕ) → fitted (countedAs n 0 n n 0) 0 ≡ sizesOf (fitting (identity (lent b 4 n))) (identity (lent b 4 n))
+unfolding identity
+identity-sizes b n = rw (length-span b (rowAt 0 4) 0 n, length-range 0 n)
+
+module _ (label : ℕ) (a b : List ℕ) where
+  pub singleton-sources : {r : answer.Refusal} → labelList a ≡ refused r → singletonStep label a b ≡ refused r
   unfolding singletonStep
-  singleton-sources-7 n e = nothing-stopped form1 room (singletonStep label sources targets) n (stops _ e)
+  singleton-sources e = stops _ e
 
-  module _ (ss : List ℕ) (p : labelList sources ≡ answered ss) where
-    pub singleton-targets-7 : (n : ℕ) → labelList targets ≡ refused n → onNothing form1 room (singletonStep label sources targets) ≡ refused n
-    unfolding singletonStep
-    singleton-targets-7 n e = nothing-stopped form1 room (singletonStep label sources targets) n (goes _ p ∙ stops _ e)
+  pub singleton-targets : {l : List ℕ} → labelList a ≡ answered l → {r : answer.Refusal} → labelList b ≡ refused r → singletonStep label a b ≡ refused r
+  unfolding singletonStep
+  singleton-targets e f = goes _ e ∙ stops _ f
 
-    pub singleton-made : (ts : List ℕ) → labelList targets ≡ answered ts → onNothing form1 room (singletonStep label sources targets) ≡ made form1 room (next (singleton label ss ts) 0)
-    unfolding singletonStep
-    singleton-made ts q = nothing-made form1 room (singletonStep label sources targets) (next (singleton label ss ts) 0) (goes _ p ∙ goes _ q)
+  pub singleton-next : {l m : List ℕ} → labelList a ≡ answered l → labelList b ≡ answered m → singletonStep label a b ≡ answered (next (singleton label l m) 0)
+  unfolding singletonStep
+  singleton-next e f = goes _ e ∙ goes _ f
+
+  pub singleton-sizes : (s t : ℕ) → fitted (countedAs (s + t) 1 s t 0) (s + t)
+      ≡ sizesOf (fitting (singleton label (lent a 4 s) (lent b 4 t))) (singleton label (lent a 4 s) (lent b 4 t))
+  unfolding singleton newOperation newEdge
+  singleton-sizes s t =
+      let n : length (lent a 4 s ++ lent b 4 t) ≡ s + t = length-append (lent a 4 s) (lent b 4 t) ∙ rw (length-span a (rowAt 0 4) 0 s, length-span b (rowAt 0 4) 0 t) in
+      let p : length ((range 0 s ++ range s t) ++ []) ≡ s + t = simp (length-append, length-range) (omega arith) in
+      rw (length-span a (rowAt 0 4) 0 s, length-span b (rowAt 0 4) 0 t, zero-add s, n, p, length-range 0 s, length-range s t)

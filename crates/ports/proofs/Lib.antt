@@ -1,3 +1,1 @@
-pub mod Place
-pub mod Forms
-pub mod Calls
+pub mod Bodies

@@ -14,7 +14,8 @@ use Rattle.incidence.specs.Tables.{part}
 use Rattle.queue.specs.Queue.{candidateAt, Heap, Holds, Before}
 use Rattle.queue.specs.declared.Candidate.{Candidate}
 use Rattle.removal.specs.Engine.{Kept, live, actives}
-use Rattle.choice.proofs.Degrees.{marked, marked-has, marked-length, marked-set}
+use Rattle.choice.specs.Degrees.{marked}
+use Rattle.choice.proofs.Degrees.{marked-has, marked-length, marked-set}
 use Rattle.choice.proofs.Sets.{has-lt}
 use Rattle.incidence.proofs.Parts.{part-length, part-at, part-ext, part-set}
 use Rattle.le.specs.Le.{Outside}

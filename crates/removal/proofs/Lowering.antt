@@ -13,7 +13,8 @@ use lib.Seq.{getD-set-other, take-suc, take-all}
 use Rattle.choice.specs.Arcs.{Set, has, without, howMany, bump}
 use Rattle.incidence.specs.Tables.{part, ends, indegrees}
 use Rattle.removal.specs.Engine.{Kept, live, waitings, candidatesAt, Held, Offered, Side, other, Lowered, Lowerable}
-use Rattle.choice.proofs.Degrees.{lower, lower-at, is-true}
+use Rattle.choice.specs.Degrees.{lower}
+use Rattle.choice.proofs.Degrees.{lower-at, is-true}
 use Rattle.incidence.proofs.Building.{ends-part}
 use Rattle.incidence.proofs.Ends.{howMany-append, howMany-one, times-here}
 use Rattle.incidence.proofs.Parts.{part-length, part-at, part-ext, part-set}

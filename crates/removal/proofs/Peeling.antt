@@ -13,7 +13,8 @@ use Rattle.choice.specs.Arcs.{Arc, In, Set, has, without, size, into, out, Loos
 use Rattle.choice.specs.Choice.{Peels, rest, peel, taken}
 use Rattle.incidence.specs.Tables.{part, arcsIn, indegrees, outdegrees}
 use Rattle.removal.specs.Engine.{Kept, live, actives, insOf, outsOf, waitings, candidatesAt, waitList, State, Removable, Removed, Once, Peeled}
-use Rattle.choice.proofs.Degrees.{inner, howMany-length}
+use Rattle.choice.specs.Degrees.{inner}
+use Rattle.choice.proofs.Degrees.{howMany-length}
 use Rattle.choice.proofs.Sets.{gone, without-subset, size-without}
 use Rattle.incidence.proofs.Parts.{part-at, part-snoc}
 use Rattle.removal.proofs.Frames.{kept-none, kept-trans, live-low, live-length}

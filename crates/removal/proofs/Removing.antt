@@ -13,7 +13,8 @@ use lib.Seq.{getD-set-other}
 use Rattle.choice.specs.Arcs.{Arc, In, Set, has, without, howMany, bump, into, out}
 use Rattle.incidence.specs.Tables.{part, zip, arcsIn, ends, outLists, inLists, indegrees, outdegrees}
 use Rattle.removal.specs.Engine.{Kept, live, actives, picks, candidatesAt, Held, Fixed, Removable, Removed, Lowerable, Lowered}
-use Rattle.choice.proofs.Degrees.{Counted, endsAt, outgoing, incoming, inner, lower, into-without, out-without, inner-without, howMany-outgoing, howMany-incoming, counted-without}
+use Rattle.choice.specs.Degrees.{Counted, endsAt, outgoing, incoming, inner, lower}
+use Rattle.choice.proofs.Degrees.{into-without, out-without, inner-without, howMany-outgoing, howMany-incoming, counted-without}
 use Rattle.choice.proofs.Sets.{without-subset}
 use Rattle.incidence.proofs.Building.{ends-part}
 use Rattle.incidence.proofs.Parts.{part-ext}

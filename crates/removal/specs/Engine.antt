@@ -8,8 +8,8 @@ use lib.Dec.{T, eqb}
 use lib.ListN.{length, getD}
 use Rattle.choice.specs.Arcs.{Arc, In, Set, has, without, vertices, howMany, Loose}
 use Rattle.choice.specs.Choice.{Peels, taken}
-use Rattle.choice.proofs.Cycles.{Bounded}
-use Rattle.choice.proofs.Degrees.{Counted, inner, lower, marked}
+use Rattle.choice.specs.Promises.{Bounded}
+use Rattle.choice.specs.Degrees.{Counted, inner, lower, marked}
 use Rattle.incidence.specs.Tables.{part, arcsIn, ends, Incidence, indegrees, outdegrees}
 use Rattle.queue.specs.declared.Candidate.{Candidate}
 use Rattle.queue.specs.Queue.{Heap, Holds}

@@ -1,35 +1,77 @@
--- More bytes than the longest form has make no difference to the report: of bytes p that are more than 49,167 and any bytes q after them, the refusal is that of p.
+-- More bytes than the longest form has make no difference to the report: of bytes p that are more and any bytes q after them, the refusal is that of p.
 -- The header lies in p, and so do all labels and edges that the limits allow; whatever is left then is longer than the longest lists.
 -- Assumes nothing.
-use mathlib.Core.Bool.{Bool, true, false}
+use mathlib.Core.Bool.{Bool, true, false, cond}
 use mathlib.Core.List.{List, [], _∷_, _++_}
 use mathlib.Core.Path.{_≡_, refl, sym, ap, subst, _∙_}
 use Prim.Native.Nat.{ℕ, zero, suc, _+_, _*_, _≤_, _<_}
-use native.Mathlib.Nat.{suc-mul}
+use native.Mathlib.Nat.{suc-mul, mul-le-mul-right}
 use native.Mathlib.Omega.{arith}
 use lib.Dec.{leb, eqb}
 use lib.ListN.{length, take, drop, length-append, length-drop, take-append-drop}
 use lib.Seq.{take-all, length-take-le, take-append-le, drop-append-le}
 use borrow.Author.Tests.{le-leb, leb-true, leb-false}
-use Rattle.graph.specs.Answer.{Answer, refused, answered, _else_, _>>=_, _>>_}
+use Rattle.graph.specs.Answer.{Refusal, Answer, refused, answered, refusal, _else_, _>>=_, _>>_}
 use Rattle.graph.specs.Calls.{unpaired}
-use Rattle.graph.specs.Form.{mark}
-use Rattle.graph.specs.Graph.{Edge, Graph, Counts, Within, countsFit, form1}
-use Rattle.graph.specs.Lists.{same}
-use Rattle.graph.specs.Read.{readCounts, readEdge, readEdges, readLists, readBody, read, countsAt}
+use Rattle.graph.specs.Form.{headerBytes, formBytes}
+use Rattle.graph.specs.Graph.{Edge, Counts, Format, Within, countsFit, largest}
+use Rattle.graph.specs.Read.{readVersion, readCounts, readEdge, readEdges, readBody, readIn, countsAt}
+use Rattle.graph.specs.Versions.{Stored, formatOf, read}
 use Rattle.le.specs.Le.{number, numbers, numberAt}
-use Rattle.graph.proofs.Reading.{Edges, after-edge}
-use Rattle.graph.proofs.Verdicts.{counts-passed, edge-over, lists-5, body-edges}
+use Rattle.graph.proofs.Reading.{Edges}
+use Rattle.graph.proofs.ReadWrite.{fits-within}
+use Rattle.graph.proofs.Steps.{same-answer, never}
+use Rattle.graph.proofs.Verdicts.{lists-5}
 use Rattle.le.proofs.Numbers.{length-numbers}
 use Rattle.report.specs.Report.{told, reportText}
 
--- ---- numbers that lie in the front
+-- ---- two answers alike: both refused with one number, or both answered, the second what the first calls for
 
-number-front : (w place : ℕ) (p q : List ℕ) → place + w ≤ length p → numberAt w (p ++ q) place ≡ numberAt w p place
-number-front w place p q h =
-    let in-p : place ≤ length p = omega arith in
-    let in-rest : w ≤ length (drop place p) = omega (arith, length-drop place p) in
-    ap number (ap (take w) (drop-append-le place p q in-p) ∙ take-append-le w (drop place p) q in-rest)
+data Alike {A : Type 0} (P : A → Type 0) (second : A → A) : Answer A → Answer A → Type 0 where
+  stopped : (r : Refusal) → Alike P second (refused r) (refused r)
+  went : (a b : A) → b ≡ second a → P a → Alike P second (answered a) (answered b)
+
+-- the second is the first
+abbrev Same : {A : Type 0} → (A → Type 0) → Answer A → Answer A → Type 0
+Same P = Alike P (λ a. a)
+
+same-itself : {A : Type 0} (x : Answer A) → Same (λ a. x ≡ answered a) x x
+same-itself (refused r) = stopped r
+same-itself (answered a) = went a a refl refl
+
+same-answers : {A : Type 0} {P : A → Type 0} {x y : Answer A} → Same P x y → y ≡ x
+same-answers (stopped r) = refl
+same-answers (went a b e p) = ap answered e
+
+module _ {B : Type 0} {Q : B → Type 0} {next : B → B} where
+  -- after answers alike
+  alike-then : {A : Type 0} {P : A → Type 0} {second : A → A} {x y : Answer A} (k l : A → Answer B) → Alike P second x y
+      → ((a : A) → P a → Alike Q next (k a) (l (second a))) → Alike Q next (x >>= k) (y >>= l)
+  unfolding _>>=_
+  alike-then k l (stopped r) f = stopped r
+  alike-then k l (went a b e p) f = subst (λ c. Alike Q next (k a) (l c)) (sym e) (f a p)
+
+  -- after one test
+  alike-test : {x y : Answer B} (c d : Bool) (n : ℕ) → d ≡ c → (c ≡ true → Alike Q next x y) → Alike Q next ((c else n) >> x) ((d else n) >> y)
+  unfolding _else_ _>>_
+  alike-test {x} {y} c d n e f = go c e f
+    where
+      go : (t : Bool) → d ≡ t → (t ≡ true → Alike Q next x y) → Alike Q next ((t else n) >> x) ((d else n) >> y)
+      go true e f = rw e (f refl)
+      go false e f = rw e (stopped (refusal n))
+
+-- ---- what lies in the front
+
+module _ (p q : List ℕ) where
+  number-front : (w place : ℕ) → place + w ≤ length p → numberAt w (p ++ q) place ≡ numberAt w p place
+  number-front w place h =
+      let in-p : place ≤ length p = omega arith in
+      let in-rest : w ≤ length (drop place p) = omega (arith, length-drop place p) in
+      ap number (ap (take w) (drop-append-le place p q in-p) ∙ take-append-le w (drop place p) q in-rest)
+
+  -- both are long enough
+  long-front : (n : ℕ) → n ≤ length p → leb n (length (p ++ q)) ≡ leb n (length p)
+  long-front n h = le-leb n (length (p ++ q)) (omega (arith, length-append p q)) ∙ sym (le-leb n (length p) h)
 
 numbers-front : (w n : ℕ) (p q : List ℕ) → n * w ≤ length p → numbers w n (p ++ q) ≡ numbers w n p
 numbers-front w zero p q h = refl
@@ -40,180 +82,144 @@ numbers-front w (suc n) p q h =
     (λ i. number (take-append-le w p q in-p i) ∷ numbers w n (drop-append-le w p q in-p i))
     ∙ ap (λ (l : List ℕ). number (take w p) ∷ l) (numbers-front w n (drop w p) q in-rest)
 
--- ---- two readings alike: both refused with one number, or both went on, the one with q after what is left
-
-data Alike {A : Type 0} (q : List ℕ) (Left : A → List ℕ → Type 0) : Answer (A × List ℕ) → Answer (A × List ℕ) → Type 0 where
-  stopped : (n : ℕ) → Alike q Left (refused n) (refused n)
-  went : (a : A) (rest : List ℕ) → Left a rest → Alike q Left (answered (a, rest)) (answered (a, rest ++ q))
-
-alike-stopped : {A : Type 0} {q : List ℕ} {Left : A → List ℕ → Type 0} {x y : Answer (A × List ℕ)} (n : ℕ) → x ≡ refused n → y ≡ refused n → Alike q Left x y
-alike-stopped {A} {q} {Left} {x} {y} n e f = subst (λ (k : Answer (A × List ℕ)). Alike q Left k y) (sym e) (subst (Alike q Left (refused n)) (sym f) (stopped n))
-
-alike-went : {A : Type 0} {q : List ℕ} {Left : A → List ℕ → Type 0} {x y : Answer (A × List ℕ)} (a : A) (rest : List ℕ) → x ≡ answered (a, rest)
-    → y ≡ answered (a, rest ++ q) → Left a rest → Alike q Left x y
-alike-went {A} {q} {Left} {x} {y} a rest e f h =
-    subst (λ (k : Answer (A × List ℕ)). Alike q Left k y) (sym e) (subst (Alike q Left (answered (a, rest))) (sym f) (went a rest h))
-
--- ---- an edge
+-- ---- the edges
 
 abbrev ports-of : Edge → ℕ
 ports-of e = length (e .sources) + length (e .targets)
 
--- an edge of these counts, and the bytes that follow it
-abbrev edge-in : ℕ → ℕ → ℕ → List ℕ → Edge × List ℕ
-edge-in label s t entries = (record { label = label; sources = numbers 2 s entries; targets = numbers 2 t (drop (s * 2) entries) }, drop ((s + t) * 2) entries)
+-- what was read, and q after what is left
+abbrev onto : {A : Type 0} → List ℕ → A × List ℕ → A × List ℕ
+onto q x = (x .0, x .1 ++ q)
 
-edge-read : (sum label : ℕ) (b : List ℕ) → 4 ≤ length b → sum + (numberAt 2 b 0 + numberAt 2 b 2) ≤ 8192
-    → (numberAt 2 b 0 + numberAt 2 b 2) * 2 ≤ length (drop 4 b) → readEdge form1 sum label b ≡ answered (edge-in label (numberAt 2 b 0) (numberAt 2 b 2) (drop 4 b))
-unfolding readEdge _else_ _>>_
-edge-read sum label b l m n =
-    rw (le-leb 4 (length b) l, le-leb (sum + (numberAt 2 b 0 + numberAt 2 b 2)) 8192 m, le-leb ((numberAt 2 b 0 + numberAt 2 b 2) * 2) (length (drop 4 b)) n)
+module _ (f : Format) where
+  -- the bytes of the longest lists
+  abbrev lists : ℕ
+  lists = (f .most .sources + (f .most .targets + 2 * f .most .pairs)) * f .width
 
-edge-in-front : (label s t : ℕ) (p q : List ℕ) → (s + t) * 2 ≤ length p
-    → edge-in label s t (p ++ q) ≡ (edge-in label s t p .0, edge-in label s t p .1 ++ q)
-edge-in-front label s t p q h =
-    let sources = numbers-front 2 s p q (omega arith) in
-    let after = drop-append-le (s * 2) p q (omega arith) in
-    let targets = ap (numbers 2 t) after ∙ numbers-front 2 t (drop (s * 2) p) q (omega (arith, length-drop (s * 2) p)) in
-    λ i. (record { label = label; sources = sources i; targets = targets i }, drop-append-le ((s + t) * 2) p q h i)
+  -- after an edge of p the port sum is within its limit, and so much was read
+  abbrev AfterEdge : ℕ → List ℕ → Edge × List ℕ → Type 0
+  AfterEdge sum p x = (sum + ports-of (x .0) ≤ f .mostPorts) × (length p ≡ (2 + ports-of (x .0)) * f .width + length (x .1))
 
-module _ (sum label : ℕ) (p q : List ℕ) (enough : 16388 ≤ length p + 2 * sum) (within : sum ≤ 8192) where
-  -- the port sum is within the limit, and so much was read
-  abbrev AfterEdge : Edge → List ℕ → Type 0
-  AfterEdge e rest = (sum + ports-of e ≤ 8192) × (length p ≡ 4 + 2 * ports-of e + length rest)
+  edge-more : (sum label : ℕ) (p q : List ℕ) → (2 + f .mostPorts) * f .width ≤ length p + sum * f .width → sum ≤ f .mostPorts
+      → Alike (AfterEdge sum p) (onto q) (readEdge f sum label p) (readEdge f sum label (p ++ q))
+  unfolding readEdge
+  edge-more sum label p q enough within =
+      let w = f .width in
+      let s = numberAt w p 0 in
+      let t = numberAt w p w in
+      let entries = drop (2 * w) p in
+      let room : sum * w ≤ f .mostPorts * w = mul-le-mul-right w within in
+      let counted : 2 * w ≤ length p = omega arith in
+      rw (number-front p q w 0 (omega arith), number-front p q w w (omega arith), drop-append-le (2 * w) p q counted)
+      (alike-test _ _ 5 (long-front p q (2 * w) (omega arith)) (λ _.
+      alike-test _ _ 4 refl (λ few.
+      let all : (sum + (s + t)) * w ≤ f .mostPorts * w = mul-le-mul-right w (leb-true _ _ few) in
+      let there : (s + t) * w ≤ length entries = omega (arith, length-drop (2 * w) p) in
+      let ports : length (numbers w s entries) + length (numbers w t (drop (s * w) entries)) ≡ s + t =
+      λ i. length-numbers w s entries i + length-numbers w t (drop (s * w) entries) i in
+      alike-test _ _ 5 (long-front entries q ((s + t) * w) (omega arith)) (λ _.
+      went _ _ (λ i. (
+        record {
+          label = label;
+          sources = numbers-front w s entries q (omega arith) i;
+          targets = (ap (numbers w t) (drop-append-le (s * w) entries q (omega arith))
+              ∙ numbers-front w t (drop (s * w) entries) q (omega (arith, length-drop (s * w) entries))) i;
+        },
+        drop-append-le ((s + t) * w) entries q there i,
+      ))
+      (rw ports (leb-true _ _ few), rw ports (omega (arith, length-drop ((s + t) * w) entries, length-drop (2 * w) p)))))))
 
-  edge-more : Alike q AfterEdge (readEdge form1 sum label p) (readEdge form1 sum label (p ++ q))
-  edge-more = go (leb (sum + (numberAt 2 p 0 + numberAt 2 p 2)) 8192) refl
+  -- after the edges, what is left is longer than the longest lists
+  abbrev AfterEdges : Edges → Type 0
+  AfterEdges x = lists < length (x .1)
+
+  edges-more : (labels : List ℕ) (sum : ℕ) (p q : List ℕ) → (2 * length labels + f .mostPorts) * f .width + lists < length p + sum * f .width
+      → sum ≤ f .mostPorts → Alike AfterEdges (onto q) (readEdges f sum labels p) (readEdges f sum labels (p ++ q))
+  edges-more [] sum p q enough within =
+      went ([], p) _ refl (omega (arith, mul-le-mul-right (f .width) within))
+  edges-more (label ∷ labels) sum p q enough within =
+      alike-then _ _ (edge-more sum label p q (omega arith) within) (λ x h.
+      alike-then _ _ (edges-more labels (sum + ports-of (x .0)) (x .1) q (omega (arith, h .1)) (h .0)) (λ y l.
+      went (x .0 ∷ y .0, y .1) _ refl l))
+
+  -- ---- the body and the header
+
+  body-more : (c : Counts) (p q : List ℕ) → Within f c → formBytes f (f .most) (f .mostPorts) < headerBytes f + length p
+      → Same (λ g. Unit {0}) (readBody f c p) (readBody f c (p ++ q))
+  unfolding readBody
+  body-more c p q h l =
+      let w = f .width in
+      let k = (c .nodes + c .edges) * 4 in
+      let labels = numbers 4 (c .edges) (drop (c .nodes * 4) p) in
+      let nodes = h .nodes in
+      let edges = h .edges in
+      let edge-room = mul-le-mul-right w edges in
+      let list-room : (c .sources + (c .targets + 2 * c .pairs)) * w ≤ lists = mul-le-mul-right w (omega (arith, h .sources, h .targets, h .pairs)) in
+      let labels-front : numbers 4 (c .edges) (drop (c .nodes * 4) (p ++ q)) ≡ labels =
+      ap (numbers 4 (c .edges)) (drop-append-le (c .nodes * 4) p q (omega arith))
+      ∙ numbers-front 4 (c .edges) (drop (c .nodes * 4) p) q (omega (arith, length-drop (c .nodes * 4) p)) in
+      rw (labels-front, drop-append-le k p q (omega arith))
+      (alike-test _ _ 5 (long-front p q k (omega arith)) (λ _.
+      alike-then _ _ (edges-more labels 0 (drop k p) q (rw (length-numbers 4 (c .edges)) (omega (arith, length-drop k p))) (omega arith)) (λ x left.
+      rw (
+        lists-5 f c p (x .0) (x .1) (λ e. omega (arith, e)),
+        lists-5 f c (p ++ q) (x .0) (x .1 ++ q) (λ e. omega (arith, e, length-append (x .1) q)),
+      ) (stopped (refusal 5)))))
+
+  counts-more : (p q : List ℕ) → headerBytes f ≤ length p → Same (Within f) (readCounts f p) (readCounts f (p ++ q))
+  unfolding readCounts
+  counts-more p q l =
+      alike-test _ _ 5 (long-front p q (headerBytes f) (omega arith)) (λ _.
+      alike-test _ _ 4 (ap (countsFit f) counts-front) (λ e. went _ _ counts-front (fits-within f (countsAt f p) e)))
     where
-      long : length (p ++ q) ≡ length p + length q
-      long = length-append p q
+      counts-front : countsAt f (p ++ q) ≡ countsAt f p
+      counts-front = λ i. record {
+        nodes = number-front p q (f .width) 5 (omega arith) i;
+        edges = number-front p q (f .width) (5 + f .width) (omega arith) i;
+        sources = number-front p q (f .width) (5 + 2 * f .width) (omega arith) i;
+        targets = number-front p q (f .width) (5 + 3 * f .width) (omega arith) i;
+        pairs = number-front p q (f .width) (5 + 4 * f .width) (omega arith) i;
+      }
 
-      s-front : numberAt 2 (p ++ q) 0 ≡ numberAt 2 p 0
-      s-front = number-front 2 0 p q (omega arith)
-
-      t-front : numberAt 2 (p ++ q) 2 ≡ numberAt 2 p 2
-      t-front = number-front 2 2 p q (omega arith)
-
-      go : (b : Bool) → leb (sum + (numberAt 2 p 0 + numberAt 2 p 2)) 8192 ≡ b
-          → Alike q AfterEdge (readEdge form1 sum label p) (readEdge form1 sum label (p ++ q))
-      go false e =
-          let over : 8192 < sum + (numberAt 2 p 0 + numberAt 2 p 2) = leb-false _ _ e in
-          let over′ : 8192 < sum + (numberAt 2 (p ++ q) 0 + numberAt 2 (p ++ q) 2) = omega (arith, s-front, t-front) in
-          alike-stopped 4 (edge-over form1 sum label p (omega arith) over) (edge-over form1 sum label (p ++ q) (omega (arith, long)) over′)
-      go true e =
-          let s = numberAt 2 p 0 in
-          let t = numberAt 2 p 2 in
-          let entries = drop 4 p in
-          let few : sum + (s + t) ≤ 8192 = leb-true _ _ e in
-          let there : (s + t) * 2 ≤ length entries = omega (arith, length-drop 4 p) in
-          let here = edge-read sum label p (omega arith) few there in
-          let after : drop 4 (p ++ q) ≡ entries ++ q = drop-append-le 4 p q (omega arith) in
-          let there′ : (numberAt 2 (p ++ q) 0 + numberAt 2 (p ++ q) 2) * 2 ≤ length (drop 4 (p ++ q)) =
-          omega (arith, s-front, t-front, length-drop 4 (p ++ q), length-drop 4 p, long) in
-          let more = edge-read sum label (p ++ q) (omega (arith, long)) (omega (arith, s-front, t-front)) there′ in
-          let same = (λ i. edge-in label (s-front i) (t-front i) (after i)) ∙ edge-in-front label s t entries q there in
-          let x = edge-in label s t entries in
-          let ports : ports-of (x .0) ≡ s + t = λ i. length-numbers 2 s entries i + length-numbers 2 t (drop (s * 2) entries) i in
-          alike-went (x .0) (x .1) here (more ∙ ap answered same)
-          (omega (arith, ports), omega (arith, ports, length-drop ((s + t) * 2) entries, length-drop 4 p))
-
--- ---- the edges
-
--- what is left is longer than the longest lists
-abbrev AfterEdges : List Edge → List ℕ → Type 0
-AfterEdges es rest = 8192 < length rest
-
-after-edge-alike : {q : List ℕ} {x y : Answer Edges} (e : Edge) → Alike q AfterEdges x y → Alike q AfterEdges (x >>= after-edge e) (y >>= after-edge e)
-unfolding _>>=_
-after-edge-alike e (stopped n) = stopped n
-after-edge-alike e (went es rest h) = went (e ∷ es) rest h
-
--- the edges of these labels after an edge
-abbrev onward : ℕ → List ℕ → Edge × List ℕ → Answer Edges
-onward sum labels x = readEdges form1 (sum + ports-of (x .0)) labels (x .1) >>= after-edge (x .0)
-
-onward-alike : {q : List ℕ} {Left : Edge → List ℕ → Type 0} {x y : Answer (Edge × List ℕ)} (sum : ℕ) (labels : List ℕ) → Alike q Left x y
-    → ((e : Edge) (rest : List ℕ) → Left e rest
-    → Alike q AfterEdges (readEdges form1 (sum + ports-of e) labels rest) (readEdges form1 (sum + ports-of e) labels (rest ++ q)))
-    → Alike q AfterEdges (x >>= onward sum labels) (y >>= onward sum labels)
-unfolding _>>=_
-onward-alike sum labels (stopped n) ih = stopped n
-onward-alike sum labels (went e rest h) ih = after-edge-alike e (ih e rest h)
-
-edges-more : (labels : List ℕ) (sum : ℕ) (p q : List ℕ) → 4 * length labels + 24576 < length p + 2 * sum → sum ≤ 8192
-    → Alike q AfterEdges (readEdges form1 sum labels p) (readEdges form1 sum labels (p ++ q))
-edges-more [] sum p q enough within = went [] p (omega arith)
-edges-more (label ∷ labels) sum p q enough within =
-    onward-alike sum labels (edge-more sum label p q (omega arith) within)
-    (λ e rest h. edges-more labels (sum + ports-of e) rest q (omega (arith, h .1)) (h .0))
-
--- ---- the body
-
-lists-alike : {q : List ℕ} {x y : Answer Edges} (c : Counts) (p : List ℕ) → Within form1 c → Alike q AfterEdges x y
-    → (y >>= λ (z : Edges). readLists form1 c (p ++ q) (z .0) (z .1)) ≡ (x >>= λ (z : Edges). readLists form1 c p (z .0) (z .1))
-unfolding _>>=_
-lists-alike c p w (stopped n) = refl
-lists-alike {q} c p w (went es rest h) =
-    lists-5 form1 c (p ++ q) es (rest ++ q) (λ e. omega (arith, e, length-append rest q, w .sources, w .targets, w .pairs))
-    ∙ sym (lists-5 form1 c p es rest (λ e. omega (arith, e, w .sources, w .targets, w .pairs)))
-
-body-more : (c : Counts) (p q : List ℕ) → Within form1 c → 49152 < length p → readBody form1 c (p ++ q) ≡ readBody form1 c p
-body-more c p q w l =
-    let nodes = w .nodes in
-    let edges = w .edges in
-    let k = (c .nodes + c .edges) * 4 in
-    let labels = numbers 4 (c .edges) (drop (c .nodes * 4) p) in
-    let node-labels : c .nodes * 4 ≤ length p = omega arith in
-    let all-labels : k ≤ length p = omega arith in
-    let labels-front : numbers 4 (c .edges) (drop (c .nodes * 4) (p ++ q)) ≡ labels =
-    ap (numbers 4 (c .edges)) (drop-append-le (c .nodes * 4) p q node-labels)
-    ∙ numbers-front 4 (c .edges) (drop (c .nodes * 4) p) q (omega (arith, length-drop (c .nodes * 4) p)) in
-    let many : length labels ≡ c .edges = length-numbers 4 (c .edges) (drop (c .nodes * 4) p) in
-    let alike = edges-more labels 0 (drop k p) q (omega (arith, length-drop k p)) (omega arith) in
-    body-edges form1 c (p ++ q) (omega (arith, length-append p q))
-    ∙ (λ i. readEdges form1 0 (labels-front i) (drop-append-le k p q all-labels i) >>= λ (z : Edges). readLists form1 c (p ++ q) (z .0) (z .1))
-    ∙ lists-alike c p w alike
-    ∙ sym (body-edges form1 c p all-labels)
-
--- ---- the header
-
-counts-more : (p q : List ℕ) → 15 ≤ length p → readCounts form1 (p ++ q) ≡ readCounts form1 p
-unfolding readCounts
-counts-more p q l =
-    λ i. (leb-front i else 1) >> ((same (take-append-le 3 p q (omega arith) i) mark else 2) >> ((eqb (number-front 2 3 p q (omega arith) i) 1 else 3)
-    >> ((leb-front i else 5) >> ((countsFit form1 (counts-front i) else 4) >> answered (counts-front i)))))
-  where
-    leb-front : leb 15 (length (p ++ q)) ≡ leb 15 (length p)
-    leb-front = le-leb 15 (length (p ++ q)) (omega (arith, length-append p q)) ∙ sym (le-leb 15 (length p) l)
-
-    counts-front : countsAt form1 (p ++ q) ≡ countsAt form1 p
-    counts-front = λ i. record {
-      nodes = number-front 2 5 p q (omega arith) i;
-      edges = number-front 2 7 p q (omega arith) i;
-      sources = number-front 2 9 p q (omega arith) i;
-      targets = number-front 2 11 p q (omega arith) i;
-      pairs = number-front 2 13 p q (omega arith) i;
-    }
+  in-more : (p q : List ℕ) → formBytes f (f .most) (f .mostPorts) < length p → Same (λ g. Unit {0}) (readIn f p) (readIn f (p ++ q))
+  unfolding readIn
+  in-more p q l =
+      let whole : headerBytes f ≤ length p = omega arith in
+      rw (drop-append-le (headerBytes f) p q whole)
+      (alike-then _ _ (counts-more p q whole) (λ c h. body-more c (drop (headerBytes f) p) q h (omega (arith, length-drop (headerBytes f) p))))
 
 -- ---- the whole
 
-read-more : (p q : List ℕ) → 49167 < length p → read form1 (p ++ q) ≡ read form1 p
-unfolding read _>>=_
-read-more p q l =
-    (λ i. counts-more p q (omega arith) i >>= λ (c : Counts). readBody form1 c (drop-append-le 15 p q (omega arith) i)) ∙ go (readCounts form1 p) refl
-  where
-    go : (m : Answer Counts) → readCounts form1 p ≡ m
-        → (m >>= λ (c : Counts). readBody form1 c (drop 15 p ++ q)) ≡ (m >>= λ (c : Counts). readBody form1 c (drop 15 p))
-    go (refused n) e = refl
-    go (answered c) e = body-more c (drop 15 p) q (counts-passed form1 p c e .1) (omega (arith, length-drop 15 p))
+version-more : (p q : List ℕ) → 15 ≤ length p → Same (λ v. Unit {0}) (readVersion p) (readVersion (p ++ q))
+unfolding readVersion
+version-more p q l =
+    rw (take-append-le 3 p q (omega arith), number-front p q 2 3 (omega arith))
+    (alike-test _ _ 1 (long-front p q 15 (omega arith)) (λ _. alike-test _ _ 2 refl (λ _. went _ _ refl tt)))
 
-pub report-of-prefix : (n : ℕ) (b : List ℕ) → 49167 < n → reportText form1 (take n b) ≡ reportText form1 b
-unfolding reportText
-report-of-prefix n b l = go (leb (length b) n) refl
+-- no version has a longer form than the largest
+longest-form : (v : ℕ) (f : Format) → formatOf v ≡ answered f → formBytes f (f .most) (f .mostPorts) ≤ formBytes largest (largest .most) (largest .mostPorts)
+unfolding formatOf
+longest-form v f = go (eqb v 1)
   where
-    go : (t : Bool) → leb (length b) n ≡ t → told form1 (read form1 (take n b) >>= unpaired) ≡ told form1 (read form1 b >>= unpaired)
-    go true e = ap (λ (k : List ℕ). told form1 (read form1 k >>= unpaired)) (take-all n b (leb-true _ _ e))
+    go : (t : Bool) → cond t (answered largest) (refused (refusal 3)) ≡ answered f
+        → formBytes f (f .most) (f .mostPorts) ≤ formBytes largest (largest .most) (largest .mostPorts)
+    go true e = subst (λ (k : Format). formBytes k (k .most) (k .mostPorts) ≤ formBytes largest (largest .most) (largest .mostPorts)) (same-answer e) (omega arith)
+    go false e = absurd (never e)
+
+read-more : (p q : List ℕ) → formBytes largest (largest .most) (largest .mostPorts) < length p → read (p ++ q) ≡ read p
+unfolding read
+read-more p q l =
+    same-answers {P = λ s. Unit {0}}
+    (alike-then _ _ (version-more p q (omega arith)) (λ v _.
+    alike-then _ _ (same-itself (formatOf v)) (λ f e.
+    alike-then _ _ (in-more f p q (omega (arith, longest-form v f e))) (λ g _. went _ _ refl tt))))
+
+pub report-of-prefix : (n : ℕ) (b : List ℕ) → formBytes largest (largest .most) (largest .mostPorts) < n → reportText (take n b) ≡ reportText b
+unfolding reportText
+report-of-prefix n b l = ap (λ (m : Answer Stored). told (m >>= λ s. unpaired (s .graph))) (go (leb (length b) n) refl)
+  where
+    go : (t : Bool) → leb (length b) n ≡ t → read (take n b) ≡ read b
+    go true e = ap read (take-all n b (leb-true _ _ e))
     go false e =
         let long : length (take n b) ≡ n = length-take-le n b (omega (arith, leb-false (length b) n e)) in
-        let more = read-more (take n b) (drop n b) (omega arith) in
-        ap (λ (m : Answer Graph). told form1 (m >>= unpaired)) (sym more ∙ ap (read form1) (take-append-drop n b))
+        sym (read-more (take n b) (drop n b) (omega arith)) ∙ ap read (take-append-drop n b)

@@ -1,32 +1,35 @@
 -- What the report says, by what reading and the choice answered. The list has room for every choice, so the choice is refused for a pending pair alone.
 -- Assumes nothing.
 use mathlib.Core.Bool.{Bool, true, false}
-use mathlib.Core.List.{List, [], _∷_, _++_}
+use mathlib.Core.List.{List, [], _∷_}
 use mathlib.Core.Path.{_≡_, refl, sym, ap, _∙_}
-use Prim.Native.Nat.{ℕ, _+_, _*_, _≤_, _<_}
+use Prim.Native.Nat.{ℕ, _+_, _^_, _≤_, _<_}
+use native.Mathlib.Nat.{zero-mul, mul-le-mul-left, mul-le-mul-right}
 use native.Mathlib.Omega.{arith}
 use lib.Dec.{eqb}
 use lib.ListN.{length, drop, length-append}
 use borrow.Author.Tests.{le-leb, eqb-true, eqb-false}
-use Rattle.choice.specs.Calls.{Cut, cycleBreakingNodesCall}
+use Rattle.choice.specs.Calls.{cycleBroken, cycleBreakingNodesCall, roomCycleBreakingNodes}
 use Rattle.choice.specs.Choice.{Above, Ascends}
 use Rattle.choice.specs.Drawing.{chosen}
-use Rattle.cycle.specs.Answers.{cut}
-use Rattle.cycle.specs.declared.Cutting.the-variants as cutting
-use Rattle.cycle.specs.declared.Cutting.{Cutting}
-use Rattle.form.specs.Form.{refusal}
+use Rattle.form.specs.Form.{Gives, outcome, refusalOf}
+use Rattle.form.specs.Stored.{graphOf, formatOf, Stored}
+use Rattle.form.specs.declared.Outcome.the-variants as call
+use Rattle.form.specs.declared.Outcome.{Outcome}
 use Rattle.form.specs.declared.Refusal.{Refusal}
 use Rattle.form.specs.declared.Sizes.{Sizes}
-use Rattle.graph.specs.Answer.{Answer, refused, answered, laid, _else_, _>>=_, _>>_}
-use Rattle.graph.specs.Calls.{unpaired, fit, inWorkRoom}
-use Rattle.graph.specs.Graph.{Graph, form1}
-use Rattle.graph.specs.Read.{read}
-use Rattle.le.specs.Le.{Below, row, numbers}
+use Rattle.graph.specs.Answer as answer
+use Rattle.graph.specs.Answer.{Answer, refused, answered, refusal, Result, lay, laid, _else_, _>>=_, _>>_}
+use Rattle.graph.specs.Calls.{unpaired, fit}
+use Rattle.graph.specs.Graph.{Graph, largest}
+use Rattle.graph.specs.Versions.{read}
+use Rattle.le.specs.Le.{Below, row}
+use Rattle.le.specs.Rows.{rowAt, Holds, span}
 use Rattle.choice.proofs.Graphs.{chosen-breaks}
-use Rattle.form.proofs.Whole.{Stored}
-use Rattle.le.proofs.Numbers.{below-widen, length-row, numbers-row}
-use Rattle.report.specs.Report.{refusedLine, drawingText, told, reportText}
 use Rattle.graph.proofs.Verdicts.{in-room, unpaired-0, unpaired-8}
+use Rattle.le.proofs.Numbers.{below-widen, length-row, numbers-row}
+use Rattle.le.proofs.Rows.{wide-some}
+use Rattle.report.specs.Report.{refusedLine, drawingText, told, reportText, listRoom}
 
 -- numbers that ascend, all above x and below n, are fewer than n - x
 above-few : (n x : ℕ) (xs : List ℕ) → x < n → Above x xs → Below n xs → x + length xs < n
@@ -38,100 +41,110 @@ ascending-few : (n : ℕ) (xs : List ℕ) → Ascends xs → Below n xs → leng
 ascending-few n [] a h = omega arith
 ascending-few n (x ∷ xs) a h = omega (arith, above-few n x xs (h .0) a (h .1))
 
-fits : (l : List ℕ) (room : ℕ) → length l ≤ room → fit room l ≡ answered l
-unfolding fit _else_ _>>_
-fits l room h = rw (le-leb (length l) room h)
-
 -- what is told of a drawing of these sizes whose choice was answered with these counts and this list
 pub record Drawing (b : List ℕ) (z : Sizes) (count free : ℕ) (new : List ℕ) : Type 0 where
-  pub few : count ≤ 2048
-  pub held : count * 2 ≤ length new
-  pub text : drawingText form1 (z .nodes) (z .edges) (z .ports) free (numbers 2 count new) ≡ reportText form1 b
+  pub few : count ≤ largest .most .nodes
+  pub held : Holds new (rowAt 0 (z .width)) count
+  pub text : drawingText (z .nodes) (z .edges) (z .ports) free (span new (rowAt 0 (z .width)) 0 count) ≡ reportText b
 
-module _ (b : List ℕ) where
-  pub text-unread : (n : ℕ) → read form1 b ≡ refused n → refusedLine n ≡ reportText form1 b
+-- a row of ids at the front of bytes
+span-laid : (w : ℕ) (ids old : List ℕ) → Below (256 ^ w) ids → span (lay (row w ids) old) (rowAt 0 w) 0 (length ids) ≡ ids
+unfolding span
+span-laid w ids old h = rw zero-mul (numbers-row w ids _ h)
+
+pub text-unread : (b : List ℕ) (r : answer.Refusal) → read b ≡ refused r → refusedLine (r .no) ≡ reportText b
+unfolding reportText _>>=_
+text-unread b r e = rw e
+
+module _ (b : List ℕ) (z : Sizes) (s : Stored b z) where
+  abbrev g : Graph
+  g = graphOf b
+
+  abbrev w : ℕ
+  w = formatOf b .width
+
+  abbrev cut : Result
+  cut = record { a = length (chosen g .ids); b = chosen g .free; bytes = row w (chosen g .ids); map = [] }
+
+  -- what is told, and what the choice answers, by whether there is a pending pair
+  text-paired : unpaired g ≡ refused (refusal 8) → refusedLine 8 ≡ reportText b
   unfolding reportText _>>=_
-  text-unread n e = rw e
+  text-paired p = rw (s .read-as, p)
 
-  -- what is told of a stored graph, by whether it has a pending pair
-  text-paired : (g : Graph) → read form1 b ≡ answered g → unpaired g ≡ refused 8 → refusedLine 8 ≡ reportText form1 b
+  text-pairless : unpaired g ≡ answered g → told (answered g) ≡ reportText b
   unfolding reportText _>>=_
-  text-paired g e p = rw (e, p)
+  text-pairless p = rw (s .read-as, p)
 
-  text-pairless : (g : Graph) → read form1 b ≡ answered g → unpaired g ≡ answered g → told form1 (answered g) ≡ reportText form1 b
-  unfolding reportText _>>=_
-  text-pairless g e p = rw (e, p)
+  cut-paired : (room : ℕ) → unpaired g ≡ refused (refusal 8) → cycleBroken b room ≡ refused (refusal 8)
+  unfolding cycleBroken _>>=_
+  cut-paired room p = rw (s .read-as, p)
 
-  -- and what the choice answers
-  cut-paired : (g : Graph) (room : ℕ) → read form1 b ≡ answered g → unpaired g ≡ refused 8 → cycleBreakingNodesCall form1 b room ≡ refused 8
-  unfolding cycleBreakingNodesCall _>>=_
-  cut-paired g room e p = rw (e, p)
+  cut-pairless : (room : ℕ) → unpaired g ≡ answered g → length (row w (chosen g .ids)) ≤ room → cycleBroken b room ≡ answered cut
+  unfolding cycleBroken fit _>>=_ _else_ _>>_
+  cut-pairless room p h = rw (s .read-as, p, le-leb (length (row w (chosen g .ids))) room h)
 
-  cut-pairless : (g : Graph) (room : ℕ) → read form1 b ≡ answered g → unpaired g ≡ answered g → length (row 2 (chosen g .ids)) ≤ room
-      → cycleBreakingNodesCall form1 b room ≡ answered (record { list = row 2 (chosen g .ids); count = length (chosen g .ids); free = chosen g .free })
-  unfolding cycleBreakingNodesCall _>>=_
-  cut-pairless g room e p h = rw (e, p, fits (row 2 (chosen g .ids)) room h)
+  -- the chosen ids are few, and small enough for their width
+  chosen-few : length (chosen g .ids) ≤ largest .most .nodes
+  chosen-few =
+      let k = chosen-breaks g (s .formed .proper) in
+      omega (arith, ascending-few (length (g .labels)) (chosen g .ids) (k .ascends) (k .nodes), s .within .counts .nodes)
 
-  module _ (z : Sizes) (s : Stored b z) (old : List ℕ) (lent : ℕ) (list-room : 4096 ≤ length old) (work-room : 466944 ≤ lent) where
-    -- the chosen ids are few, and small enough for their width
-    chosen-few : length (chosen (s .graph) .ids) ≤ 2048
-    chosen-few =
-        let k = chosen-breaks (s .graph) (s .formed .proper) in
-        omega (arith, ascending-few (length (s .graph .labels)) (chosen (s .graph) .ids) (k .ascends) (k .nodes), s .formed .counts .nodes)
+  chosen-small : Below (256 ^ w) (chosen g .ids)
+  chosen-small = below-widen (chosen g .ids) (omega (arith, s .formed .counts .nodes, s .usable .nodes)) (chosen-breaks g (s .formed .proper) .nodes)
 
-    chosen-small : Below 65536 (chosen (s .graph) .ids)
-    chosen-small = below-widen (chosen (s .graph) .ids) (omega (arith, s .formed .counts .nodes)) (chosen-breaks (s .graph) (s .formed .proper) .nodes)
+  module _ (old : List ℕ) (lent : ℕ) (list-room : listRoom ≤ length old) (work-room : roomCycleBreakingNodes ≤ lent) where
+    -- the two ways
+    data Ways : Type 0 where
+      paired : cycleBreakingNodesCall b (length old) lent ≡ refused (refusal 8) → refusedLine 8 ≡ reportText b → Ways
+      pairless : cycleBreakingNodesCall b (length old) lent ≡ answered cut → told (answered g) ≡ reportText b → Ways
 
-    chosen-fits : length (row 2 (chosen (s .graph) .ids)) ≤ length old
-    chosen-fits = omega (arith, length-row 2 (chosen (s .graph) .ids), chosen-few)
-
-    -- the choice is refused for a pending pair, and then that is told
-    pub text-refused : (r : Cutting) → r ≡ cut (inWorkRoom 466944 lent (cycleBreakingNodesCall form1 b (length old))) → (x : Refusal) → r ≡ cutting.Refused x
-        → refusedLine (x .no) ≡ reportText form1 b
-    text-refused r k x e = go (eqb (length (s .graph .pairs)) 0) refl
+    ways : Ways
+    ways = go (eqb (length (g .pairs)) 0) refl
       where
-        inside : inWorkRoom 466944 lent (cycleBreakingNodesCall form1 b (length old)) ≡ cycleBreakingNodesCall form1 b (length old)
-        inside = in-room 466944 lent (cycleBreakingNodesCall form1 b (length old)) work-room
+        inside : cycleBreakingNodesCall b (length old) lent ≡ cycleBroken b (length old)
+        inside = in-room roomCycleBreakingNodes lent (cycleBroken b (length old)) work-room
 
-        go : (t : Bool) → eqb (length (s .graph .pairs)) 0 ≡ t → refusedLine (x .no) ≡ reportText form1 b
-        go false q =
-            let p = unpaired-8 (s .graph) (eqb-false _ _ q) in
-            let a : cutting.Refused x ≡ cutting.Refused (refusal 8) = sym e ∙ k ∙ ap cut (inside ∙ cut-paired (s .graph) (length old) (s .read-as) p) in
-            let same : x ≡ refusal 8 = cc in
-            ap (λ (y : Refusal). refusedLine (y .no)) same ∙ text-paired (s .graph) (s .read-as) p
-        go true q =
-            let c = chosen (s .graph) in
-            let a : cutting.Refused x ≡ cutting.Done (length (c .ids)) (c .free) =
-            sym e ∙ k ∙ ap cut (inside ∙ cut-pairless (s .graph) (length old) (s .read-as) (unpaired-0 (s .graph) (eqb-true _ _ q)) chosen-fits) in
-            let o : _≡_ {A = ℕ} 0 1 = cc in absurd (omega arith)
+        fits : length (row w (chosen g .ids)) ≤ length old
+        fits =
+            omega (arith, length-row w (chosen g .ids), mul-le-mul-right w chosen-few, mul-le-mul-left (largest .most .nodes) (wide-some (s .usable .width) .1))
 
-    -- otherwise it is told
-    pub text-done : (r : Cutting) → r ≡ cut (inWorkRoom 466944 lent (cycleBreakingNodesCall form1 b (length old))) → (count free : ℕ) → r ≡ cutting.Done count free
-        → (new : List ℕ) → new ≡ laid (λ c. c .list) (inWorkRoom 466944 lent (cycleBreakingNodesCall form1 b (length old))) old → Drawing b z count free new
-    text-done r k count free e new l = go (eqb (length (s .graph .pairs)) 0) refl
-      where
-        inside : inWorkRoom 466944 lent (cycleBreakingNodesCall form1 b (length old)) ≡ cycleBreakingNodesCall form1 b (length old)
-        inside = in-room 466944 lent (cycleBreakingNodesCall form1 b (length old)) work-room
+        go : (t : Bool) → eqb (length (g .pairs)) 0 ≡ t → Ways
+        go false q = let p = unpaired-8 g (eqb-false _ _ q) in paired (inside ∙ cut-paired (length old) p) (text-paired p)
+        go true q = let p = unpaired-0 g (eqb-true _ _ q) in pairless (inside ∙ cut-pairless (length old) p fits) (text-pairless p)
 
-        go : (t : Bool) → eqb (length (s .graph .pairs)) 0 ≡ t → Drawing b z count free new
-        go false q =
-            let a : cutting.Done count free ≡ cutting.Refused (refusal 8) =
-            sym e ∙ k ∙ ap cut (inside ∙ cut-paired (s .graph) (length old) (s .read-as) (unpaired-8 (s .graph) (eqb-false _ _ q))) in
-            let o : _≡_ {A = ℕ} 0 1 = cc in absurd (omega arith)
-        go true q =
-            let g = s .graph in
-            let c = chosen g in
-            let p = unpaired-0 g (eqb-true _ _ q) in
-            let w = inside ∙ cut-pairless g (length old) (s .read-as) p chosen-fits in
-            let a : cutting.Done count free ≡ cutting.Done (length (c .ids)) (c .free) = sym e ∙ k ∙ ap cut w in
-            let many : count ≡ length (c .ids) = cc in
-            let frees : free ≡ c .free = cc in
-            let rest = drop (length (row 2 (c .ids))) old in
-            let holds : new ≡ row 2 (c .ids) ++ rest = l ∙ ap (λ (y : Answer Cut). laid (λ d. d .list) y old) w in
-            let back : numbers 2 count new ≡ c .ids = (λ i. numbers 2 (many i) (holds i)) ∙ numbers-row 2 (c .ids) rest chosen-small in
-            let long : length new ≡ length (row 2 (c .ids)) + length rest = ap length holds ∙ length-append (row 2 (c .ids)) rest in
-            record {
-              few = omega (arith, chosen-few);
-              held = omega (arith, length-row 2 (c .ids));
-              text = (λ i. drawingText form1 (s .sizes i .nodes) (s .sizes i .edges) (s .sizes i .ports) (frees i) (back i)) ∙ text-pairless g (s .read-as) p;
-            }
+    module _ (r : Outcome) (new : List ℕ) (given : Gives (cycleBreakingNodesCall b (length old) lent) r old new) where
+      -- the choice is refused for a pending pair, and then that is told
+      pub text-refused : (x : Refusal) → r ≡ call.Refused x → refusedLine (x .no) ≡ reportText b
+      text-refused x e = go ways
+        where
+          go : Ways → refusedLine (x .no) ≡ reportText b
+          go (paired a t) =
+              let q : call.Refused x ≡ call.Refused (refusalOf (refusal 8)) = sym e ∙ given .result ∙ ap outcome a in
+              let same : x ≡ refusalOf (refusal 8) = cc in
+              ap (λ (y : Refusal). refusedLine (y .no)) same ∙ t
+          go (pairless a t) =
+              let q : call.Refused x ≡ call.Done (cut .a) (cut .b) = sym e ∙ given .result ∙ ap outcome a in
+              let o : _≡_ {A = ℕ} 0 1 = cc in absurd (omega arith)
+
+      -- otherwise it is told
+      pub text-done : (count free : ℕ) → r ≡ call.Done count free → Drawing b z count free new
+      text-done count free e = go ways
+        where
+          go : Ways → Drawing b z count free new
+          go (paired a t) =
+              let q : call.Done count free ≡ call.Refused (refusalOf (refusal 8)) = sym e ∙ given .result ∙ ap outcome a in
+              let o : _≡_ {A = ℕ} 0 1 = cc in absurd (omega arith)
+          go (pairless a t) =
+              let q : call.Done count free ≡ call.Done (cut .a) (cut .b) = sym e ∙ given .result ∙ ap outcome a in
+              let many : count ≡ cut .a = cc in
+              let frees : free ≡ cut .b = cc in
+              let holds : new ≡ lay (cut .bytes) old = given .buffer ∙ ap (λ (m : Answer Result). laid m old) a in
+              let width : z .width ≡ w = ap (λ (y : Sizes). y .width) (s .sizes) in
+              let back : span new (rowAt 0 (z .width)) 0 count ≡ chosen g .ids =
+              (λ i. span (holds i) (rowAt 0 (width i)) 0 (many i)) ∙ span-laid w (chosen g .ids) old chosen-small in
+              let long : length new ≡ length (cut .bytes) + length (drop (length (cut .bytes)) old) = ap length holds ∙ length-append (cut .bytes) _ in
+              record {
+                few = omega (arith, chosen-few);
+                held = rw (width, many) (record { wide = s .usable .width; inside = omega (arith, length-row w (chosen g .ids)) });
+                text = (λ i. drawingText (s .sizes i .nodes) (s .sizes i .edges) (s .sizes i .ports) (frees i) (back i)) ∙ t;
+              }

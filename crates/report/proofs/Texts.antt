@@ -4,27 +4,26 @@ use mathlib.Core.Path.{_≡_, refl, sym, ap, subst, _∙_}
 use mathlib.Core.Bool.{Bool, true, false}
 use mathlib.Core.List.{List, [], _∷_, _++_, append-nil}
 use Prim.Native.Nat.{ℕ, zero, suc, _+_, _*_, _/_, _%_, _^_, _-_, _≤_, _<_}
-use native.Mathlib.Nat.{add-zero, pow-suc, one-le-pow, pow-le-pow-right, mod-lt, mod-eq-of-lt}
-use native.Mathlib.Numerals.{add-one}
+use native.Mathlib.Nat.{add-zero, zero-add, pow-suc, one-le-pow, pow-le-pow-right, mod-lt, mod-eq-of-lt}
 use native.Mathlib.Omega.{arith}
 use lib.Dec.{leb}
 use lib.ListN.{length, length-append}
 use lib.Seq.{sets}
 use borrow.Author.Tests.{lt-ltb, le-ltb, leb-true, leb-false}
 use Rattle.io.specs.Digits.{digits, glyph, Fewest}
-use Rattle.le.specs.Le.{numbers, numberAt}
-use Rattle.le.proofs.Numbers.{length-numbers}
-use Rattle.le.proofs.Places.{numbers-next}
+use Rattle.le.specs.declared.Row.{Row}
+use Rattle.le.specs.Rows.{entry, span}
+use Rattle.le.proofs.Rows.{span-next}
 use Rattle.le.proofs.Stores.{sets-append}
 use Rattle.graph.specs.Graph.{form1}
 use Rattle.graph.specs.Lists.{joined}
 use Rattle.graph.proofs.Laws.{joined-append}
 use Rattle.report.specs.Report.{markLine, sizesLine, countsLine, idLine, drawingText}
-use Rattle.report.specs.Text.{ascii, numeral, decimal, Put}
+use Rattle.report.specs.Text.{ascii, numeral, decimal, Printed}
 
 -- bytes put after others are put with them
-pub put-then : {a b c : List ℕ} {place mid next : ℕ} (x y : List ℕ) → Put a place x b mid → Put b mid y c next → Put a place (x ++ y) c next
-put-then {a} {b} {c} {place} {mid} {next} x y p q = record {
+pub printed-then : {a b c : List ℕ} {place mid next : ℕ} (x y : List ℕ) → Printed a place x b mid → Printed b mid y c next → Printed a place (x ++ y) c next
+printed-then {a} {b} {c} {place} {mid} {next} x y p q = record {
   holds = q .holds ∙ ap (λ (l : List ℕ). sets l mid y) (p .holds) ∙ ap (λ (k : ℕ). sets (sets a place x) k y) (p .ends) ∙ sym (sets-append a place x y);
   ends = omega (arith, length-append x y, p .ends, q .ends);
 }
@@ -72,22 +71,21 @@ fewest-few k n f h = go (leb k 20) refl
         let long : 20 ≤ k - 1 = omega (arith, leb-false k 20 e) in
         absurd (omega (arith, f .2 (omega (arith, leb-false k 20 e)), tens long))
 
--- the lines of one id more
-ids-next : (ids : List ℕ) (i : ℕ) → joined idLine (numbers 2 (i + 1) ids) ≡ joined idLine (numbers 2 i ids) ++ idLine (numberAt 2 ids (i * 2))
-ids-next ids i =
-    rw (add-one i) (ap (joined idLine) (numbers-next 2 i ids) ∙ joined-append idLine (numbers 2 i ids) (numberAt 2 ids (i * 2) ∷ [])
-    ∙ ap (λ (l : List ℕ). joined idLine (numbers 2 i ids) ++ l) (append-nil (idLine (numberAt 2 ids (i * 2)))))
+-- no id is put yet
+pub printed-none : (a : List ℕ) (place : ℕ) (list : List ℕ) (r : Row) → Printed a place (joined idLine (span list r 0 0)) a place
+unfolding span
+printed-none a place list r = record { holds = refl; ends = sym (add-zero place) }
 
-pub put-id-more : {a b c : List ℕ} {place mid next : ℕ} (ids : List ℕ) (i id : ℕ) → id ≡ numberAt 2 ids (i * 2)
-    → Put a place (joined idLine (numbers 2 i ids)) b mid → Put b mid (idLine id) c next → Put a place (joined idLine (numbers 2 (i + 1) ids)) c next
-put-id-more {a} {b} {c} {place} {mid} {next} ids i id e p q =
-    subst (λ (l : List ℕ). Put a place l c next)
-    (ap (λ (k : ℕ). joined idLine (numbers 2 i ids) ++ idLine k) e ∙ sym (ids-next ids i))
-    (put-then (joined idLine (numbers 2 i ids)) (idLine id) p q)
-
--- nothing is put yet
-pub put-none : (a : List ℕ) (place : ℕ) → Put a place [] a place
-put-none a place = record { holds = refl; ends = sym (add-zero place) }
+-- the lines of one id more of a row
+pub printed-id : {a b c : List ℕ} {place mid next : ℕ} (list : List ℕ) (r : Row) (i id : ℕ) → id ≡ entry list r i
+    → Printed a place (joined idLine (span list r 0 i)) b mid → Printed b mid (idLine id) c next → Printed a place (joined idLine (span list r 0 (i + 1))) c next
+printed-id {a} {b} {c} {place} {mid} {next} list r i id e p q =
+    let ids = span list r 0 i in
+    let more : joined idLine (span list r 0 (i + 1)) ≡ joined idLine ids ++ idLine (entry list r i) =
+    ap (joined idLine) (span-next list r 0 i) ∙ joined-append idLine ids (entry list r (0 + i) ∷ [])
+    ∙ (λ h. joined idLine ids ++ append-nil (idLine (entry list r (zero-add i h))) h) in
+    subst (λ (l : List ℕ). Printed a place l c next) (ap (λ (k : ℕ). joined idLine ids ++ idLine k) e ∙ sym more)
+    (printed-then (joined idLine ids) (idLine id) p q)
 
 -- the first line of every drawing
 mark-line : ascii "OHG 1\n" ≡ markLine form1
@@ -95,13 +93,12 @@ unfolding decimal
 mark-line = refl
 
 -- the lines of a drawing, one after the other
-pub put-lines : {a b c d e : List ℕ} {i j k l : ℕ} (nodes edges ports count free : ℕ) (list : List ℕ)
-    → Put a 0 (ascii "OHG 1\n") b i → Put b i (sizesLine nodes edges ports) c j → Put c j (countsLine count free) d k
-    → Put d k (joined idLine (numbers 2 count list)) e l → Put a 0 (drawingText form1 nodes edges ports free (numbers 2 count list)) e l
-put-lines {a} {b} {c} {d} {e} {i} {j} {k} {l} nodes edges ports count free list p q r s =
+pub printed-lines : {a b c d e : List ℕ} {i j k l : ℕ} (nodes edges ports count free : ℕ) (ids : List ℕ) → count ≡ length ids
+    → Printed a 0 (ascii "OHG 1\n") b i → Printed b i (sizesLine nodes edges ports) c j → Printed c j (countsLine count free) d k
+    → Printed d k (joined idLine ids) e l → Printed a 0 (drawingText nodes edges ports free ids) e l
+printed-lines {a} {b} {c} {d} {e} {i} {j} {k} {l} nodes edges ports count free ids many p q r s =
     let sizes = sizesLine nodes edges ports in
     let counts = countsLine count free in
-    let ids = joined idLine (numbers 2 count list) in
-    let many : count ≡ length (numbers 2 count list) = sym (length-numbers 2 count list) in
-    subst (λ (t : List ℕ). Put a 0 t e l) (λ h. mark-line h ++ sizes ++ countsLine (many h) free ++ ids)
-    (put-then (ascii "OHG 1\n" ++ sizes ++ counts) ids (put-then (ascii "OHG 1\n" ++ sizes) counts (put-then (ascii "OHG 1\n") sizes p q) r) s)
+    subst (λ (t : List ℕ). Printed a 0 t e l) (λ h. mark-line h ++ sizes ++ countsLine (many h) free ++ joined idLine ids)
+    (printed-then (ascii "OHG 1\n" ++ sizes ++ counts) (joined idLine ids)
+    (printed-then (ascii "OHG 1\n" ++ sizes) counts (printed-then (ascii "OHG 1\n") sizes p q) r) s)

@@ -1,14 +1,14 @@
 -- 01, the report program: what it prints for any bytes.
 -- Assumes nothing.
 use mathlib.Core.List.{List, _++_}
-use Prim.Native.Nat.{ℕ}
+use Prim.Native.Nat.{ℕ, _*_}
 use Prim.Native.String.{String}
 use lib.ListN.{length}
 use Rattle.graph.specs.Lists.{joined}
-use Rattle.graph.specs.Graph.{Graph, Format, ports}
+use Rattle.graph.specs.Graph.{Graph, Format, form1, largest, ports}
 use Rattle.graph.specs.Form.{mark}
 use Rattle.graph.specs.Answer.{Answer, refused, answered, _>>=_}
-use Rattle.graph.specs.Read.{read}
+use Rattle.graph.specs.Versions.{read}
 use Rattle.graph.specs.Calls.{unpaired}
 use Rattle.choice.specs.Drawing.{chosen}
 use Rattle.report.specs.Text.{ascii, decimal}
@@ -38,16 +38,24 @@ idLine id = decimal id ++ ascii "\n"
 abbrev pub refusedLine : ℕ → List ℕ
 refusedLine n = field "refused " n ++ ascii "\n"
 
--- a drawing of these sizes with these cut ids
-abbrev pub drawingText : Format → ℕ → ℕ → ℕ → ℕ → List ℕ → List ℕ
-drawingText f nodes edges ports free ids =
-    markLine f ++ sizesLine nodes edges ports ++ countsLine (length ids) free ++ joined idLine ids
+-- a drawing of version 1, of these sizes and with these cut ids
+abbrev pub drawingText : ℕ → ℕ → ℕ → ℕ → List ℕ → List ℕ
+drawingText nodes edges ports free ids =
+    markLine form1 ++ sizesLine nodes edges ports ++ countsLine (length ids) free ++ joined idLine ids
 
 -- what is printed of a graph that was read and has no pairs, or of a refusal
-abbrev pub told : Format → Answer Graph → List ℕ
-told f (refused n) = refusedLine n
-told f (answered g) = drawingText f (length (g .labels)) (length (g .edges)) (ports g) (chosen g .free) (chosen g .ids)
+abbrev pub told : Answer Graph → List ℕ
+told (refused r) = refusedLine (r .no)
+told (answered g) = drawingText (length (g .labels)) (length (g .edges)) (ports g) (chosen g .free) (chosen g .ids)
 
 -- what is printed for any bytes
-unfoldable pub reportText : Format → List ℕ → List ℕ
-reportText f b = told f (read f b >>= unpaired)
+unfoldable pub reportText : List ℕ → List ℕ
+reportText b = told (read b >>= λ s. unpaired (s .graph))
+
+-- the bytes of the buffer into which a report is put: more than the longest one has
+abbrev pub reportRoom : ℕ
+reportRoom = 65536
+
+-- the bytes of a list of all nodes, in the widest ids that there are
+abbrev pub listRoom : ℕ
+listRoom = largest .most .nodes * 4

@@ -25,6 +25,6 @@ unfoldable pub decimal : ℕ → List ℕ
 decimal = numeral 20
 
 -- these bytes were put at a place, and next is the place after them
-pub record Put (old : List ℕ) (place : ℕ) (bytes new : List ℕ) (next : ℕ) : Type 0 where
+pub record Printed (old : List ℕ) (place : ℕ) (bytes new : List ℕ) (next : ℕ) : Type 0 where
   pub holds : new ≡ sets old place bytes
   pub ends : next ≡ place + length bytes

@@ -5,10 +5,11 @@ mod text;
 ghost use mathlib.Core.Path.{_≡_};
 ghost use Prim.Native.Nat.{_≤_};
 ghost use lib.ListN.{length};
-ghost use Rattle.graph.specs.Graph.{form1};
-ghost use Rattle.report.specs.Report.{reportText};
-ghost use Rattle.report.specs.Text.{Put};
-use cycle::Cutting;
+ghost use Rattle.choice.specs.Calls.{roomCycleBreakingNodes};
+ghost use Rattle.io.specs.Counts.{Counts};
+ghost use Rattle.report.specs.Report.{reportText, reportRoom, listRoom};
+ghost use Rattle.report.specs.Text.{Printed};
+use form::Outcome;
 use form::Reading;
 use libc::STDERR_FILENO;
 use libc::STDIN_FILENO;
@@ -18,25 +19,25 @@ use text::put_refusal;
 
 // The work room of the choice, cleared. The `ensures` gives only the length, which lending the array as a slice needs.
 fn room_buffer() -> [u8; cycle::ROOM_CYCLE_BREAKING_NODES]
-    ensures { λ r. ⌜ 466944 ≡ length r ⌝ }
+    ensures { λ r. ⌜ roomCycleBreakingNodes ≡ length r ⌝ }
 {
     [0; cycle::ROOM_CYCLE_BREAKING_NODES]
 }
 
 // The report on any bytes, at the front of out; answered is its length.
 fn report(src: &[u8], list: &mut [u8], room: &mut [u8], out: &mut [u8]) -> usize
-    requires { ⌜ (4096 ≤ length (now list)) × (466944 ≤ length (now room)) × (65536 ≤ length (now out)) ⌝ }
-    ensures { λ r. ⌜ Put (now (out .entry)) 0 (reportText form1 (now (src .entry))) (now (out .exit)) r ⌝ }
-    ensures { λ r. ⌜ r ≤ 65536 ⌝ }
+    requires { ⌜ (listRoom ≤ length (now list)) × (roomCycleBreakingNodes ≤ length (now room)) × (reportRoom ≤ length (now out)) ⌝ }
+    ensures { λ r. ⌜ Printed (now (out .entry)) 0 (reportText (now (src .entry))) (now (out .exit)) r ⌝ }
+    ensures { λ r. ⌜ Counts r (now (out .exit)) ⌝ }
 {
-    let graph = form::read(src);
+    let graph = read::read(src);
     let Reading::Sized(z) = graph else {
         return put_refusal(out, graph.refusal());
     };
     let choice = cycle::cycle_breaking_nodes(src, list, room);
     match choice {
-        Cutting::Done { ids, free } => put_drawing(out, z, list, ids, free),
-        Cutting::Refused(x) => put_refusal(out, x),
+        Outcome::Done { a, b } => put_drawing(out, z, list, a, b),
+        Outcome::Refused(x) => put_refusal(out, x),
     }
 }
 
@@ -62,7 +63,7 @@ fn main() {
             return;
         }
     }
-    let mut list = io::buffer();
+    let mut list = io::large_buffer();
     let mut room = room_buffer();
     let mut out = io::large_buffer();
     let k = report(&form[..n], &mut list, &mut room, &mut out);

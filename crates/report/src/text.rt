@@ -4,16 +4,18 @@ ghost use mathlib.Core.List.{_++_};
 ghost use Prim.Native.Nat.{_+_, _*_, _≤_};
 ghost use lib.ListN.{length};
 ghost use Rattle.graph.specs.Lists.{joined};
-ghost use Rattle.graph.specs.Graph.{form1};
-ghost use Rattle.le.specs.Le.{numbers};
-ghost use Rattle.report.specs.Text.{Put, decimal};
-ghost use Rattle.report.specs.Report.{sizesLine, countsLine, idLine, refusedLine, drawingText};
+ghost use Rattle.graph.specs.Graph.{largest};
+ghost use Rattle.io.specs.Counts.{Counts};
+ghost use Rattle.le.specs.Rows.{rowAt, Holds, span};
+ghost use Rattle.report.specs.Text.{Printed, decimal};
+ghost use Rattle.report.specs.Report.{sizesLine, countsLine, idLine, refusedLine, drawingText, reportRoom};
 use form::Refusal;
 use form::Sizes;
+use le::Row;
 
 fn put_text(out: &mut [u8], at: usize, text: &[u8]) -> usize
     requires { ⌜ at + length (now text) ≤ length (now out) ⌝ }
-    ensures { λ r. ⌜ Put (now (out .entry)) at (now (text .entry)) (now (out .exit)) r ⌝ }
+    ensures { λ r. ⌜ Printed (now (out .entry)) at (now (text .entry)) (now (out .exit)) r ⌝ }
 {
     le::copy(out, at, text, 0, text.len());
     at + text.len()
@@ -22,7 +24,7 @@ fn put_text(out: &mut [u8], at: usize, text: &[u8]) -> usize
 // A number in decimal.
 fn put_number(out: &mut [u8], at: usize, n: usize) -> usize
     requires { ⌜ at + 20 ≤ length (now out) ⌝ }
-    ensures { λ r. ⌜ Put (now (out .entry)) at (decimal n) (now (out .exit)) r ⌝ }
+    ensures { λ r. ⌜ Printed (now (out .entry)) at (decimal n) (now (out .exit)) r ⌝ }
     ensures { λ r. ⌜ r ≤ at + 20 ⌝ }
 {
     let mut digits = [0u8; 20];
@@ -33,7 +35,7 @@ fn put_number(out: &mut [u8], at: usize, n: usize) -> usize
 // A word and a number.
 fn put_field(out: &mut [u8], at: usize, word: &[u8], n: usize) -> usize
     requires { ⌜ at + length (now word) + 20 ≤ length (now out) ⌝ }
-    ensures { λ r. ⌜ Put (now (out .entry)) at (now (word .entry) ++ decimal n) (now (out .exit)) r ⌝ }
+    ensures { λ r. ⌜ Printed (now (out .entry)) at (now (word .entry) ++ decimal n) (now (out .exit)) r ⌝ }
     ensures { λ r. ⌜ r ≤ at + length (now (word .entry)) + 20 ⌝ }
 {
     let next = put_text(out, at, word);
@@ -41,9 +43,9 @@ fn put_field(out: &mut [u8], at: usize, word: &[u8], n: usize) -> usize
 }
 
 pub fn put_refusal(out: &mut [u8], x: Refusal) -> usize
-    requires { ⌜ 65536 ≤ length (now out) ⌝ }
-    ensures { λ r. ⌜ Put (now (out .entry)) 0 (refusedLine (x .no)) (now (out .exit)) r ⌝ }
-    ensures { λ r. ⌜ r ≤ 65536 ⌝ }
+    requires { ⌜ reportRoom ≤ length (now out) ⌝ }
+    ensures { λ r. ⌜ Printed (now (out .entry)) 0 (refusedLine (x .no)) (now (out .exit)) r ⌝ }
+    ensures { λ r. ⌜ Counts r (now (out .exit)) ⌝ }
 {
     let no = x.no;
     let next = put_field(out, 0, b"refused ", no as usize);
@@ -52,7 +54,7 @@ pub fn put_refusal(out: &mut [u8], x: Refusal) -> usize
 
 fn put_sizes(out: &mut [u8], at: usize, z: Sizes) -> usize
     requires { ⌜ at + 100 ≤ length (now out) ⌝ }
-    ensures { λ r. ⌜ Put (now (out .entry)) at (sizesLine (z .nodes) (z .edges) (z .ports)) (now (out .exit)) r ⌝ }
+    ensures { λ r. ⌜ Printed (now (out .entry)) at (sizesLine (z .nodes) (z .edges) (z .ports)) (now (out .exit)) r ⌝ }
     ensures { λ r. ⌜ r ≤ at + 100 ⌝ }
 {
     let nodes = put_field(out, at, b"nodes ", z.nodes);
@@ -63,7 +65,7 @@ fn put_sizes(out: &mut [u8], at: usize, z: Sizes) -> usize
 
 fn put_counts(out: &mut [u8], at: usize, ids: usize, free: usize) -> usize
     requires { ⌜ at + 100 ≤ length (now out) ⌝ }
-    ensures { λ r. ⌜ Put (now (out .entry)) at (countsLine ids free) (now (out .exit)) r ⌝ }
+    ensures { λ r. ⌜ Printed (now (out .entry)) at (countsLine ids free) (now (out .exit)) r ⌝ }
     ensures { λ r. ⌜ r ≤ at + 100 ⌝ }
 {
     let cut = put_field(out, at, b"cut ", ids);
@@ -73,35 +75,40 @@ fn put_counts(out: &mut [u8], at: usize, ids: usize, free: usize) -> usize
 
 fn put_id(out: &mut [u8], at: usize, id: usize) -> usize
     requires { ⌜ at + 21 ≤ length (now out) ⌝ }
-    ensures { λ r. ⌜ Put (now (out .entry)) at (idLine id) (now (out .exit)) r ⌝ }
+    ensures { λ r. ⌜ Printed (now (out .entry)) at (idLine id) (now (out .exit)) r ⌝ }
     ensures { λ r. ⌜ r ≤ at + 21 ⌝ }
 {
     let after = put_number(out, at, id);
     put_text(out, after, b"\n")
 }
 
-// The first ids of a list, one a line.
-fn put_ids(out: &mut [u8], at: usize, list: &[u8], ids: usize) -> usize
-    requires { ⌜ (ids * 2 ≤ length (now list)) × (at + ids * 21 ≤ length (now out)) ⌝ }
-    ensures { λ r. ⌜ Put (now (out .entry)) at (joined idLine (numbers 2 ids (now (list .entry)))) (now (out .exit)) r ⌝ }
+// The first ids of a row, one a line.
+fn put_ids(out: &mut [u8], at: usize, list: &[u8], row: Row, ids: usize) -> usize
+    requires { ⌜ Holds (now list) row ids × (at + ids * 21 ≤ length (now out)) ⌝ }
+    ensures { λ r. ⌜ Printed (now (out .entry)) at (joined idLine (span (now (list .entry)) row 0 ids)) (now (out .exit)) r ⌝ }
     ensures { λ r. ⌜ r ≤ at + ids * 21 ⌝ }
 {
     let mut next = at;
     for i in 0..ids {
-        let id = le::get2(list, i * form::WIDTH);
-        next = put_id(out, next, id as usize);
+        let id = le::number(list, row, i);
+        next = put_id(out, next, id);
     }
     next
 }
 
 // A drawing of these sizes, of which the first ids of the list are cut.
 pub fn put_drawing(out: &mut [u8], z: Sizes, list: &[u8], ids: usize, free: usize) -> usize
-    requires { ⌜ (ids ≤ 2048) × (ids * 2 ≤ length (now list)) × (65536 ≤ length (now out)) ⌝ }
-    ensures { λ r. ⌜ Put (now (out .entry)) 0 (drawingText form1 (z .nodes) (z .edges) (z .ports) free (numbers 2 ids (now (list .entry)))) (now (out .exit)) r ⌝ }
-    ensures { λ r. ⌜ r ≤ 65536 ⌝ }
+    requires { ⌜ (ids ≤ largest .most .nodes) × Holds (now list) (rowAt 0 (z .width)) ids × (reportRoom ≤ length (now out)) ⌝ }
+    ensures { λ r. ⌜ Printed (now (out .entry)) 0
+        (drawingText (z .nodes) (z .edges) (z .ports) free (span (now (list .entry)) (rowAt 0 (z .width)) 0 ids)) (now (out .exit)) r ⌝ }
+    ensures { λ r. ⌜ Counts r (now (out .exit)) ⌝ }
 {
     let sizes = put_text(out, 0, b"OHG 1\n");
     let counts = put_sizes(out, sizes, z);
     let lines = put_counts(out, counts, ids, free);
-    put_ids(out, lines, list, ids)
+    let row = Row {
+        at: 0,
+        width: z.width,
+    };
+    put_ids(out, lines, list, row, ids)
 }

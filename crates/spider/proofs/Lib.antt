@@ -1,6 +1,4 @@
 pub mod Lists
-pub mod Entries
-pub mod Edges
-pub mod Graphs
+pub mod Passes
 pub mod Parts
 pub mod Calls

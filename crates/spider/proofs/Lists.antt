@@ -1,20 +1,162 @@
--- Lists rewritten one part after the other: fresh nodes, the entries of a node, labels.
+-- Entries in the row of a stored graph, and lists rewritten one part after the other: fresh nodes, the entries of a node, the rows of the edges.
 -- Assumes nothing.
 use mathlib.Core.Bool.{Bool, true, false, cond}
-use mathlib.Core.List.{List, [], _∷_, _++_}
-use mathlib.Core.Path.{_≡_, refl, sym, ap, _∙_}
-use Prim.Native.Nat.{ℕ, suc, _+_, _*_, _-_, _≤_, _<_}
+use mathlib.Core.List.{List, [], _∷_, _++_, append-nil, append-assoc, map, map-append}
+use mathlib.Core.Path.{_≡_, refl, sym, ap, _∙_, subst}
+use Prim.Native.Nat.{ℕ, suc, _+_, _-_, _≤_, _<_}
 use native.Mathlib.Nat.{add-zero}
-use native.Mathlib.Numerals.{add-one}
 use native.Mathlib.Omega.{arith}
 use lib.Dec.{eqb}
-use lib.ListN.{length, drop, length-append}
-use Rattle.graph.specs.Lists.{keep}
-use Rattle.graph.specs.Spider.{freshened, after, entriesOf}
-use Rattle.le.specs.Le.{numberAt, numbers}
-use Rattle.form.proofs.Reach.{numbers-append}
-use Rattle.graph.proofs.Spiders.{keep-append}
-use Rattle.le.proofs.Places.{numbers-next}
+use lib.ListN.{length, getD, take, drop, length-append, length-map}
+use lib.Seq.{take-length}
+use Rattle.form.specs.Form.{bodyOf, listsFrom, edgeIn}
+use Rattle.form.specs.Stored.{graphOf, Stored}
+use Rattle.form.specs.declared.EdgeAt.{EdgeAt}
+use Rattle.form.specs.declared.Sizes.{Sizes}
+use Rattle.form.proofs.Stored.{edge-there}
+use Rattle.graph.specs.Form.{edgeRow, edgeStart, noEdge}
+use Rattle.graph.specs.Graph.{Edge, Graph, edgeEntries, edgeSources, edgeTargets}
+use Rattle.graph.specs.Lists.{keep, joined}
+use Rattle.graph.specs.Spider.{freshened, after, freshenedEdges, entriesOf}
+use Rattle.le.specs.Le.{Below}
+use Rattle.le.specs.Rows.{Holds, entry}
+use Rattle.le.specs.declared.Row.{Row}
+use Rattle.write.specs.Write.{Put}
+use Rattle.write.proofs.Results.{put-then}
+use Rattle.spider.specs.Rewriting.{idsAt, Ids, labelled, Fresh, more, moreEdges}
+use Rattle.graph.proofs.Laws.{joined-append, joined-split}
+use Rattle.graph.proofs.Rows.{length-edge-rows, take-edges, at-edge}
+use Rattle.graph.proofs.Spiders.{keep-append, after-append}
+use Rattle.le.proofs.Numbers.{below-append, below-front, below-back}
+use Rattle.le.proofs.Rows.{holds-less, length-span, span-append, span-one}
+use Rattle.links.proofs.Cells.{keep-more}
+
+-- ---- entries in the row
+
+module _ (b : List ℕ) (z : Sizes) (j : ℕ) where
+  pub ids-next : (i k : ℕ) → idsAt b z j (i + k) ≡ idsAt b z j i ++ idsAt b z (j + i) k
+  ids-next i k = span-append b (bodyOf z) j i k
+
+  module _ (n i k : ℕ) (l : i + k ≤ n) where
+    split : idsAt b z j n ≡ (idsAt b z j i ++ idsAt b z (j + i) k) ++ idsAt b z (j + (i + k)) (n - (i + k))
+    split =
+        let e : n ≡ i + k + (n - (i + k)) = omega arith in
+        ap (idsAt b z j) e ∙ ids-next (i + k) (n - (i + k)) ∙ ap (λ (xs : List ℕ). xs ++ idsAt b z (j + (i + k)) (n - (i + k))) (ids-next i k)
+
+    pub ids-part : Ids b z j n → Ids b z (j + i) k
+    ids-part h = record {
+      stored = h .stored;
+      held = holds-less (h .held) _ (omega arith);
+      known = below-back _ (idsAt b z j i) _ (below-front _ (idsAt b z j i ++ idsAt b z (j + i) k) _ (subst (Below (z .nodes)) split (h .known)));
+    }
+
+    pub kept-within : (m : ℕ → Bool) → length (keep m (idsAt b z j i)) + length (keep m (idsAt b z (j + i) k)) ≤ length (keep m (idsAt b z j n))
+    kept-within m =
+        omega (
+          arith,
+          ap (λ (xs : List ℕ). length (keep m xs)) split ∙ keep-more m (idsAt b z j i ++ idsAt b z (j + i) k) (idsAt b z (j + (i + k)) (n - (i + k))),
+          keep-more m (idsAt b z j i) (idsAt b z (j + i) k),
+        )
+
+-- an entry that was read
+module _ (b : List ℕ) (z : Sizes) (j : ℕ) (r : Row) (is : r ≡ bodyOf z) (id : ℕ) (e : id ≡ entry b r j) where
+  pub entry-is : idsAt b z j 1 ≡ id ∷ []
+  entry-is = span-one b (bodyOf z) j ∙ ap (λ (x : ℕ). x ∷ []) (sym (e ∙ ap (λ (r : Row). entry b r j) is))
+
+  pub entry-known : Ids b z j 1 → id < z .nodes
+  entry-known h = subst (Below (z .nodes)) entry-is (h .known) .0
+
+-- labels after labels
+module _ (g : Graph) (m : ℕ → Bool) where
+  pub length-labelled : (xs : List ℕ) → length (labelled g m xs) ≡ length (keep m xs)
+  length-labelled xs = length-map (keep m xs) (λ (id : ℕ). getD (g .labels) id 0)
+
+  pub labelled-append : (xs ys : List ℕ) → labelled g m (xs ++ ys) ≡ labelled g m xs ++ labelled g m ys
+  labelled-append xs ys = ap (map (λ (id : ℕ). getD (g .labels) id 0)) (keep-append m xs ys) ∙ map-append (λ (id : ℕ). getD (g .labels) id 0) (keep m xs) (keep m ys)
+
+  pub labels-then : {old mid new : List ℕ} {r : Row} {k j n : ℕ} (xs ys all : List ℕ) → Put old r k (labelled g m xs) mid j → Put mid r j (labelled g m ys) new n → all ≡ xs ++ ys
+      → Put old r k (labelled g m all) new n
+  labels-then xs ys all p q e = rw (e, labelled-append xs ys) (put-then p q)
+
+-- an edge that was met on the walk: where its ids stand, and that they are its own
+pub record EdgeRead (b : List ℕ) (z : Sizes) (i k : ℕ) (e : EdgeAt) : Type 0 where
+  pub sources : e .sources ≡ length (getD (graphOf b .edges) i noEdge .sources)
+  pub targets : e .targets ≡ length (getD (graphOf b .edges) i noEdge .targets)
+  pub first : e .first ≡ k + 2
+  pub end : e .end ≡ edgeStart (graphOf b .edges) (i + 1)
+  pub next : e .end ≡ e .first + (e .sources + e .targets)
+  pub ids : Ids b z (e .first) (e .sources + e .targets)
+  pub source-ids : idsAt b z (e .first) (e .sources) ≡ getD (graphOf b .edges) i noEdge .sources
+  pub target-ids : idsAt b z (e .first + e .sources) (e .targets) ≡ getD (graphOf b .edges) i noEdge .targets
+  pub inside : e .end ≤ listsFrom z
+  pub few : e .sources + e .targets ≤ z .ports
+  pub source-part : Ids b z (e .first) (e .sources)
+  pub target-part : Ids b z (e .first + e .sources) (e .targets)
+  pub sofar : edgeEntries (take (i + 1) (graphOf b .edges)) ≡ edgeEntries (take i (graphOf b .edges)) ++ idsAt b z (e .first) (e .sources + e .targets)
+  pub within : (m : ℕ → Bool) → length (keep m (edgeEntries (take i (graphOf b .edges)))) + length (keep m (idsAt b z (e .first) (e .sources + e .targets))) ≤ length (keep m (edgeEntries (graphOf b .edges)))
+
+-- all edges were met
+pub all-edges : {b : List ℕ} {z : Sizes} → Stored b z → (i : ℕ) → i ≡ z .edges → take i (graphOf b .edges) ≡ graphOf b .edges
+all-edges {b} s i e = ap (λ (n : ℕ). take n (graphOf b .edges)) (e ∙ ap (λ (y : Sizes). y .edges) (s .sizes)) ∙ take-length (graphOf b .edges)
+
+module _ {b : List ℕ} {z : Sizes} (s : Stored b z) (i k : ℕ) (l : i < z .edges) (at : k ≡ edgeStart (graphOf b .edges) i) (r : Row) (is : r ≡ bodyOf z) where
+  pub edge-held : Holds b r (k + 2)
+  edge-held = rw is (edge-there s i k l at .held)
+
+  pub edge-read : (e : EdgeAt) → e ≡ edgeIn b r k → EdgeRead b z i k e
+  unfolding edgeIn
+  edge-read e met =
+      let g = graphOf b in
+      let t = edge-there s i k l at in
+      let c = met ∙ ap (λ (r : Row). edgeIn b r k) is ∙ t .counts in
+      let inside : i < length (g .edges) = subst (λ (y : Sizes). i < y .edges) (s .sizes) l in
+      let next : e .end ≡ e .first + (e .sources + e .targets) = rw met (omega arith) in
+      let end : e .end ≡ edgeStart (g .edges) (i + 1) = ap (λ (d : EdgeAt). d .end) c in
+      let all : length (joined edgeRow (g .edges)) ≡ listsFrom z = length-edge-rows (g .edges) ∙ sym (ap listsFrom (s .sizes)) in
+      let source-ids : idsAt b z (e .first) (e .sources) ≡ getD (g .edges) i noEdge .sources = (λ x. idsAt b z (c x .first) (c x .sources)) ∙ t .source-ids in
+      let target-ids : idsAt b z (e .first + e .sources) (e .targets) ≡ getD (g .edges) i noEdge .targets = (λ x. idsAt b z (c x .first + c x .sources) (c x .targets)) ∙ t .target-ids in
+      let nodes : length (g .labels) ≡ z .nodes = sym (ap (λ (y : Sizes). y .nodes) (s .sizes)) in
+      let d = getD (g .edges) i noEdge in
+      let n = e .sources + e .targets in
+      let entries : Edge → List ℕ = λ d. d .sources ++ d .targets in
+      let both : idsAt b z (e .first) n ≡ entries d = ids-next b z (e .first) (e .sources) (e .targets) ∙ (λ x. source-ids x ++ target-ids x) in
+      let ids : Ids b z (e .first) n = record {
+        stored = s;
+        held = holds-less (t .ids-held) _ (omega arith);
+        known = rw (both, ← nodes) (below-append _ (d .sources) _ (t .sources-known) (t .targets-known));
+      } in
+      let sofar : edgeEntries (take (i + 1) (g .edges)) ≡ edgeEntries (take i (g .edges)) ++ idsAt b z (e .first) n =
+      ap edgeEntries (take-edges (g .edges) i inside) ∙ joined-append entries (take i (g .edges)) (d ∷ []) ∙ ap (λ (xs : List ℕ). edgeEntries (take i (g .edges)) ++ xs) (append-nil (entries d) ∙ sym both) in
+      record {
+        sources = ap (λ (d : EdgeAt). d .sources) c;
+        targets = ap (λ (d : EdgeAt). d .targets) c;
+        first = ap (λ (d : EdgeAt). d .first) c;
+        end = end;
+        next = next;
+        ids = ids;
+        source-ids = source-ids;
+        target-ids = target-ids;
+        inside = omega (arith, at-edge (g .edges) [] i inside .inside);
+        few =
+            omega (
+              arith,
+              ap length sofar ∙ length-append (edgeEntries (take i (g .edges))) (idsAt b z (e .first) n),
+              length-span b (bodyOf z) (e .first) n,
+              ap length (sym (joined-split entries (i + 1) (g .edges))) ∙ length-append (edgeEntries (take (i + 1) (g .edges))) (edgeEntries (drop (i + 1) (g .edges))),
+              ap (λ (y : Sizes). y .ports) (s .sizes),
+            );
+        source-part = subst (λ (j : ℕ). Ids b z j (e .sources)) (add-zero (e .first)) (ids-part b z (e .first) n 0 (e .sources) (omega arith) ids);
+        target-part = ids-part b z (e .first) n (e .sources) (e .targets) (omega arith) ids;
+        sofar = sofar;
+        within = λ m.
+            omega (
+              arith,
+              sym (keep-more m (edgeEntries (take i (g .edges))) (idsAt b z (e .first) n)) ∙ ap (λ (xs : List ℕ). length (keep m xs)) (sym sofar),
+              ap (λ (xs : List ℕ). length (keep m xs)) (sym (joined-split entries (i + 1) (g .edges))) ∙ keep-more m (edgeEntries (take (i + 1) (g .edges))) (edgeEntries (drop (i + 1) (g .edges))),
+            );
+      }
+
+-- ---- fresh nodes, one part after the other
 
 module _ (m : ℕ → Bool) where
   pub length-freshened : (next : ℕ) (xs : List ℕ) → length (freshened m next xs) ≡ length xs
@@ -38,10 +180,15 @@ module _ (m : ℕ → Bool) where
           ap (λ (r : List ℕ). next ∷ r) (ih (suc next) ∙ ap (λ (k : ℕ). freshened m (suc next) xs ++ freshened m k ys) e)
       pick false ih = ap (λ (r : List ℕ). x ∷ r) (ih next)
 
-  pub keep-within : (xs ys : List ℕ) → length (keep m xs) ≤ length (keep m (xs ++ ys))
-  keep-within xs ys = rw (keep-append m xs ys, length-append (keep m xs) (keep m ys)) (omega arith)
+  pub keep-few : (xs : List ℕ) → length (keep m xs) ≤ length xs
+  keep-few [] = omega arith
+  keep-few (x ∷ xs) = pick (m x) (keep-few xs)
+    where
+      pick : (c : Bool) → length (keep m xs) ≤ length xs → length (cond c (x ∷ keep m xs) (keep m xs)) ≤ suc (length xs)
+      pick true h = omega arith
+      pick false h = omega arith
 
-pub entries-append : (x : ℕ) (old old′ new new′ : List ℕ) → length old ≡ length new → entriesOf x (old ++ old′) (new ++ new′) ≡ entriesOf x old new ++ entriesOf x old′ new′
+entries-append : (x : ℕ) (old old′ new new′ : List ℕ) → length old ≡ length new → entriesOf x (old ++ old′) (new ++ new′) ≡ entriesOf x old new ++ entriesOf x old′ new′
 entries-append x [] old′ [] new′ e = refl
 entries-append x [] old′ (y ∷ new) new′ e = absurd (omega arith)
 entries-append x (o ∷ old) old′ [] new′ e = absurd (omega arith)
@@ -52,22 +199,58 @@ entries-append x (o ∷ old) old′ (y ∷ new) new′ e = pick (eqb x o) (entri
     pick true ih = ap (λ (r : List ℕ). y ∷ r) ih
     pick false ih = ih
 
--- ---- ids one after the other
+module _ (m : ℕ → Bool) where
+  -- entries after entries of the same kind
+  pub more-append : (kind next : ℕ) (xs ys : List ℕ) (F : Fresh) (k x : ℕ) → more m kind (after m next xs) ys (more m kind next xs F) k x ≡ more m kind next (xs ++ ys) F k x
+  more-append kind next xs ys F k x = go (eqb k kind)
+    where
+      A : List ℕ
+      A = entriesOf x xs (freshened m next xs)
 
-pub ids-more : (b : List ℕ) (k id : ℕ) → id ≡ numberAt 2 b (k * 2) → numbers 2 (k + 1) b ≡ numbers 2 k b ++ (id ∷ [])
-ids-more b k id e = ap (λ (m : ℕ). numbers 2 m b) (add-one k) ∙ numbers-next 2 k b ∙ ap (λ (x : ℕ). numbers 2 k b ++ (x ∷ [])) (sym e)
+      B : List ℕ
+      B = entriesOf x ys (freshened m (after m next xs) ys)
 
-pub ids-split : (b : List ℕ) (n k : ℕ) → k ≤ n → numbers 2 n b ≡ numbers 2 k b ++ numbers 2 (n - k) (drop (k * 2) b)
-ids-split b n k l = let e : k + (n - k) ≡ n = omega arith in ap (λ (m : ℕ). numbers 2 m b) (sym e) ∙ numbers-append 2 k (n - k) b
+      go : (c : Bool) → cond c (cond c (F k x ++ A) (F k x) ++ B) (cond c (F k x ++ A) (F k x)) ≡ cond c (F k x ++ entriesOf x (xs ++ ys) (freshened m next (xs ++ ys))) (F k x)
+      go true =
+          append-assoc (F k x) A B
+          ∙ ap (λ (r : List ℕ). F k x ++ r) (sym (ap (entriesOf x (xs ++ ys)) (freshened-append m next xs ys) ∙ entries-append x xs ys (freshened m next xs) (freshened m (after m next xs) ys) (sym (length-freshened m next xs))))
+      go false = refl
 
--- an entry more is still among all
-pub keep-room : (m : ℕ → Bool) (b : List ℕ) (n k id : ℕ) → k < n → id ≡ numberAt 2 b (k * 2)
-    → length (keep m (numbers 2 k b)) + length (keep m (id ∷ [])) ≤ length (keep m (numbers 2 n b))
-keep-room m b n k id l e =
-    let all = ids-split b n (k + 1) (omega arith) in
-    let h : length (keep m (numbers 2 (k + 1) b)) ≤ length (keep m (numbers 2 n b)) = rw all (keep-within m (numbers 2 (k + 1) b) (numbers 2 (n - (k + 1)) (drop ((k + 1) * 2) b))) in
-    omega (arith, ap (λ (xs : List ℕ). length (keep m xs)) (ids-more b k id e) ∙ ap length (keep-append m (numbers 2 k b) (id ∷ [])) ∙ length-append (keep m (numbers 2 k b)) (keep m (id ∷ [])))
+  -- one edge more
+  pub edges-more : (next : ℕ) (es : List Edge) (e : Edge) → freshenedEdges m next (es ++ (e ∷ [])) ≡ freshenedEdges m next es ++ freshenedEdges m (after m next (edgeEntries es)) (e ∷ [])
+  edges-more next [] e = rw (add-zero next)
+  edges-more next (d ∷ es) e = rw (after-append m next (d .sources ++ d .targets) (edgeEntries es)) (ap (λ (r : List Edge). freshenedEdges m next (d ∷ []) ++ r) (edges-more (after m next (d .sources ++ d .targets)) es e))
 
-pub keep-more : (m : ℕ → Bool) (b : List ℕ) (k id : ℕ) → id ≡ numberAt 2 b (k * 2) → length (keep m (numbers 2 k b)) + length (keep m (id ∷ [])) ≡ length (keep m (numbers 2 (k + 1) b))
-keep-more m b k id e =
-    sym (ap (λ (xs : List ℕ). length (keep m xs)) (ids-more b k id e) ∙ ap length (keep-append m (numbers 2 k b) (id ∷ [])) ∙ length-append (keep m (numbers 2 k b)) (keep m (id ∷ [])))
+  pub more-edges-more : (next : ℕ) (es : List Edge) (e : Edge) (F : Fresh) → moreEdges m next (es ++ (e ∷ [])) F ≡ moreEdges m (after m next (edgeEntries es)) (e ∷ []) (moreEdges m next es F)
+  more-edges-more next [] e F = rw (add-zero next)
+  more-edges-more next (d ∷ es) e F = rw (after-append m next (d .sources ++ d .targets) (edgeEntries es)) (more-edges-more (after m next (d .sources ++ d .targets)) es e _)
+
+  -- the rows are as long as they were
+  pub rows-long : (next : ℕ) (es : List Edge) → length (joined edgeRow (freshenedEdges m next es)) ≡ length (joined edgeRow es)
+  rows-long next [] = refl
+  rows-long next (e ∷ es) =
+      let s = freshened m next (e .sources) in
+      let t = freshened m (after m next (e .sources)) (e .targets) in
+      let r = freshenedEdges m (after m next (e .sources ++ e .targets)) es in
+      rw (length-append (s ++ t) (joined edgeRow r), length-append s t, length-append (e .sources ++ e .targets) (joined edgeRow es), length-append (e .sources) (e .targets))
+      (omega (arith, length-freshened m next (e .sources), length-freshened m (after m next (e .sources)) (e .targets), rows-long (after m next (e .sources ++ e .targets)) es))
+
+  -- what edges add to each kind: nothing to global entries
+  pub more-sources : (next : ℕ) (es : List Edge) (F : Fresh) (x : ℕ) → moreEdges m next es F 1 x ≡ F 1 x ++ entriesOf x (edgeSources es) (edgeSources (freshenedEdges m next es))
+  more-sources next [] F x = sym (append-nil (F 1 x))
+  more-sources next (e ∷ es) F x =
+      let s = e .sources in
+      more-sources (after m next (s ++ e .targets)) es _ x ∙ append-assoc (F 1 x) (entriesOf x s (freshened m next s)) _
+      ∙ ap (λ (r : List ℕ). F 1 x ++ r) (sym (entries-append x s (edgeSources es) (freshened m next s) _ (sym (length-freshened m next s))))
+
+  pub more-targets : (next : ℕ) (es : List Edge) (F : Fresh) (x : ℕ) → moreEdges m next es F 2 x ≡ F 2 x ++ entriesOf x (edgeTargets es) (edgeTargets (freshenedEdges m next es))
+  more-targets next [] F x = sym (append-nil (F 2 x))
+  more-targets next (e ∷ es) F x =
+      let t = e .targets in
+      let n = after m next (e .sources) in
+      more-targets (after m next (e .sources ++ t)) es _ x ∙ append-assoc (F 2 x) (entriesOf x t (freshened m n t)) _
+      ∙ ap (λ (r : List ℕ). F 2 x ++ r) (sym (entries-append x t (edgeTargets es) (freshened m n t) _ (sym (length-freshened m n t))))
+
+  pub more-others : (next : ℕ) (es : List Edge) (F : Fresh) (x : ℕ) → (moreEdges m next es F 0 x ≡ F 0 x) × (moreEdges m next es F 3 x ≡ F 3 x)
+  more-others next [] F x = (refl, refl)
+  more-others next (e ∷ es) F x = more-others (after m next (e .sources ++ e .targets)) es _ x

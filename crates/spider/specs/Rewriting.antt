@@ -1,88 +1,76 @@
 -- What the passes of spiderizing leave: the labels of fresh nodes, the rewritten lists, and the table with its chains.
 -- Assumes nothing.
-use Prim.Native.Nat.{ℕ, zero, suc, _+_, _*_, _≤_}
+use Prim.Native.Nat.{ℕ, _+_, _*_, _≤_}
 use mathlib.Core.Path.{_≡_}
 use mathlib.Core.Bool.{Bool, cond}
 use mathlib.Core.List.{List, [], _∷_, _++_, map}
 use lib.Dec.{eqb}
-use lib.ListN.{length}
-use Rattle.le.specs.Le.{numberAt, row}
-use Rattle.graph.specs.Lists.{keep, joined, range}
-use Rattle.graph.specs.Graph.{Edge, Graph, counts, form1, edgeSources, edgeTargets, edgeEntries}
-use Rattle.graph.specs.Form.{header, edgeBytes}
-use Rattle.graph.specs.Spider.{freshened, after, freshenedEdges, entriesOf, entries, spiderizedAt}
-use Rattle.graph.specs.Answer.{Answer}
-use Rattle.graph.specs.Calls.{Made, made}
+use lib.ListN.{getD}
+use Rattle.le.specs.Le.{Below}
+use Rattle.le.specs.Rows.{Holds, span, puts}
+use Rattle.le.specs.declared.Row.{Row}
+use Rattle.graph.specs.Lists.{keep, among}
+use Rattle.graph.specs.Graph.{Edge, Graph}
+use Rattle.graph.specs.Spider.{freshened, after, entriesOf, spiderizedAt}
+use Rattle.graph.specs.Versions.{fitting}
+use Rattle.form.specs.Form.{sizesOf, bodyOf}
 use Rattle.form.specs.declared.Sizes.{Sizes}
-use Rattle.form.specs.Stored.{graphOf, Whole}
-use Rattle.links.specs.Links.{marked, Linked}
+use Rattle.form.specs.Stored.{graphOf, Stored}
+use Rattle.links.specs.Links.{cells, cellCount, unlisted, isListed, Linked}
 
--- the labels of the fresh nodes of these entries, from the bytes of the graph: each that of the node whose entry it was
-abbrev pub labelled : List ℕ → (ℕ → Bool) → List ℕ → List ℕ
-labelled b listed entries = map (λ id. numberAt 4 b (15 + id * 4)) (keep listed entries)
+-- n numbers of the second row of a form, from index j on
+abbrev pub idsAt : List ℕ → Sizes → ℕ → ℕ → List ℕ
+idsAt b z j n = span b (bodyOf z) j n
 
--- the fresh nodes of each kind of entry, with those of a list of entries of one kind
-abbrev pub more : (ℕ → Bool) → ℕ → ℕ → List ℕ → (ℕ → ℕ → List ℕ) → ℕ → ℕ → List ℕ
-more listed kind next entries fresh k x = fresh k x ++ cond (eqb k kind) (entriesOf x entries (freshened listed next entries)) []
+-- they are ids of nodes of a stored graph
+pub record Ids (b : List ℕ) (z : Sizes) (j n : ℕ) : Type 0 where
+  pub stored : Stored b z
+  pub held : Holds b (bodyOf z) (j + n)
+  pub known : Below (z .nodes) (idsAt b z j n)
 
--- the table after entries of one kind were rewritten: it lists the same nodes, and their chains have the new fresh nodes
-pub record Rewritten (nodes kind next : ℕ) (entries W W′ : List ℕ) : Type 0 where
-  pub marks : marked nodes W′ ≡ marked nodes W
-  pub chains : (fresh : ℕ → ℕ → List ℕ) → Linked nodes W next fresh
-      → Linked nodes W′ (after (marked nodes W) next entries) (more (marked nodes W) kind next entries fresh)
+-- the labels of the fresh nodes of these entries: each that of the node whose entry it was
+abbrev pub labelled : Graph → (ℕ → Bool) → List ℕ → List ℕ
+labelled g listed entries = map (λ id. getD (g .labels) id 0) (keep listed entries)
 
--- the same after an edge's sources, of kind 1, and its targets, of kind 2
-pub record RewrittenEdge (nodes next : ℕ) (s t W W′ : List ℕ) : Type 0 where
-  pub marks : marked nodes W′ ≡ marked nodes W
-  pub chains : (fresh : ℕ → ℕ → List ℕ) → Linked nodes W next fresh
-      → Linked nodes W′ (after (marked nodes W) (after (marked nodes W) next s) t)
-      (more (marked nodes W) 2 (after (marked nodes W) next s) t (more (marked nodes W) 1 next s fresh))
+-- the fresh nodes of each kind of entry of each node
+abbrev pub Fresh : Type 0
+Fresh = ℕ → ℕ → List ℕ
 
--- four kinds of entries
-abbrev pub four : (ℕ → List ℕ) → (ℕ → List ℕ) → (ℕ → List ℕ) → (ℕ → List ℕ) → ℕ → ℕ → List ℕ
-four a b c d zero x = a x
-four a b c d (suc zero) x = b x
-four a b c d (suc (suc zero)) x = c x
-four a b c d (suc (suc (suc k))) x = d x
+-- those, with the fresh nodes of a list of entries of one kind
+abbrev pub more : (ℕ → Bool) → ℕ → ℕ → List ℕ → Fresh → Fresh
+more listed kind next entries fresh k x = cond (eqb k kind) (fresh k x ++ entriesOf x entries (freshened listed next entries)) (fresh k x)
 
--- the fresh nodes of the edges' source entries and of their target entries
-abbrev pub ofSources : (ℕ → Bool) → ℕ → List Edge → ℕ → List ℕ
-ofSources listed n es x = entriesOf x (edgeSources es) (edgeSources (freshenedEdges listed n es))
+-- with those of edges: their sources are of kind 1, their targets of kind 2
+abbrev pub moreEdges : (ℕ → Bool) → ℕ → List Edge → Fresh → Fresh
+moreEdges listed next [] fresh = fresh
+moreEdges listed next (e ∷ es) fresh =
+    moreEdges listed (after listed next (e .sources ++ e .targets)) es
+    (more listed 2 (after listed next (e .sources)) (e .targets) (more listed 1 next (e .sources) fresh))
 
-abbrev pub ofTargets : (ℕ → Bool) → ℕ → List Edge → ℕ → List ℕ
-ofTargets listed n es x = entriesOf x (edgeTargets es) (edgeTargets (freshenedEdges listed n es))
+-- a pass over entries: their new ids were put into a row, the next fresh node, and a table that lists the same nodes and has the new fresh nodes in its chains
+pub record Pass (listed : ℕ → Bool) (nodes start : ℕ) (W old : List ℕ) (r : Row) (k : ℕ) (entries new-ids : List ℕ) (step : Fresh → Fresh) (W′ new : List ℕ) (next : ℕ) : Type 0 where
+  pub number : next ≡ after listed start entries
+  pub stored : new ≡ puts old r k new-ids
+  pub same : isListed nodes W′ ≡ listed
+  pub chains : (fresh : Fresh) → Linked nodes W start fresh → Linked nodes W′ next (step fresh)
 
--- the table after all edges
-pub record RewrittenEdges (nodes : ℕ) (es : List Edge) (W W′ : List ℕ) : Type 0 where
-  pub marks : marked nodes W′ ≡ marked nodes W
-  pub chains : Linked nodes W nodes (λ k x. [])
-      → Linked nodes W′ (after (marked nodes W) nodes (edgeEntries es)) (four (λ x. []) (ofSources (marked nodes W) nodes es) (ofTargets (marked nodes W) nodes es) (λ x. []))
-
--- an edge's bytes, from its two lists
-abbrev pub rowOf : List ℕ → List ℕ → List ℕ
-rowOf s t = row 2 (length s ∷ length t ∷ (s ++ t))
-
--- a form up to its edge labels, and from its edges on, where it has no pairs
-abbrev pub front : Graph → List ℕ
-front g = header form1 (counts g) ++ (row 4 (g .labels) ++ row 4 (map (λ (e : Edge). e .label) (g .edges)))
-
-abbrev pub rest : Graph → List ℕ
-rest g = joined (edgeBytes form1) (g .edges) ++ (row 2 (g .sources) ++ row 2 (g .targets))
-
--- the counts of a spiderized graph, within the limits: how many fresh nodes, and how many spiders
-pub record Counted (b : List ℕ) (z : Sizes) (W : List ℕ) (fresh spiders : ℕ) : Type 0 where
-  pub whole : Whole b z
-  pub unpaired : z .pairs ≡ 0
-  pub is-fresh : fresh ≡ length (keep (marked (z .nodes) W) (entries (graphOf b)))
-  pub is-spiders : spiders ≡ 2 * length (keep (marked (z .nodes) W) (range 0 (z .nodes)))
-  pub nodes : z .nodes + fresh ≤ 2048
-  pub edges : z .edges + spiders ≤ 2048
-  pub ports : z .ports + (spiders + fresh) ≤ 8192
+-- room in a table for the fresh nodes up to, not including, a number
+pub record Numbered (nodes start end : ℕ) (room : List ℕ) : Type 0 where
+  pub from : nodes ≤ start
+  pub few : end ≤ unlisted
+  pub heads : nodes * 4 ≤ cellCount room
+  pub links : nodes * 3 + end ≤ cellCount room
 
 -- the graph of these bytes, spiderized at the nodes that a table lists
 abbrev pub spidered : List ℕ → Sizes → List ℕ → Graph
-spidered b z W = spiderizedAt (marked (z .nodes) W) (graphOf b)
+spidered b z W = spiderizedAt (isListed (z .nodes) W) (graphOf b)
 
--- what a call answers whose step gives that graph
-abbrev pub answeredWith : List ℕ → Sizes → List ℕ → ℕ → Answer Made
-answeredWith b z W room = made form1 room (record { graph = spidered b z W; id = 0 })
+-- y are its sizes, and the table, which lists these nodes, has room for its fresh nodes
+pub record Plan (b : List ℕ) (z y : Sizes) (room : List ℕ) : Type 0 where
+  pub stored : Stored b z
+  pub unpaired : z .pairs ≡ 0
+  pub ids : List ℕ
+  pub listed : isListed (z .nodes) (cells room) ≡ among ids
+  pub sizes : y ≡ sizesOf (fitting (spidered b z (cells room))) (spidered b z (cells room))
+  pub numbered : Numbered (z .nodes) (z .nodes) (y .nodes) room
+  pub empty : Linked (z .nodes) (cells room) (z .nodes) (λ k x. [])

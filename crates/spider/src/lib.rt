@@ -2,44 +2,44 @@
 // join what the fresh nodes took apart. One pass counts the entries, one writes the labels of the fresh nodes, one rewrites the lists while it numbers the
 // entries and links each fresh node to the one before it of the same node and kind; the spiders are read off these chains.
 ghost use mathlib.Core.Path.{_≡_};
-ghost use mathlib.Core.List.{[], _∷_};
-ghost use Prim.Native.Nat.{_+_, _*_, _<_, _≤_};
-ghost use lib.ListN.{length, drop, replicate};
-ghost use lib.Seq.{sets};
-ghost use Rattle.le.specs.Le.{Below, numberAt, numbers, row};
-ghost use Rattle.graph.specs.Lists.{keep, joined};
-ghost use Rattle.graph.specs.Graph.{form1, spider, edgeEntries};
-ghost use Rattle.graph.specs.Form.{edgeBytes};
-ghost use Rattle.graph.specs.Answer.{laid};
+ghost use mathlib.Core.List.{List, [], _∷_};
+ghost use Prim.Native.Nat.{ℕ, _+_, _*_, _<_, _≤_};
+ghost use lib.ListN.{length, replicate};
+ghost use Rattle.le.specs.Rows.{Holds, puts};
+ghost use Rattle.graph.specs.Lists.{keep, joined, among};
+ghost use Rattle.graph.specs.Graph.{Graph, Format, spider, edgeEntries};
+ghost use Rattle.graph.specs.Form.{edgeRow, labelRow, body};
+ghost use Rattle.graph.specs.Answer.{Answer, answered};
 ghost use Rattle.graph.specs.Spider.{freshened, after, freshenedEdges};
-ghost use Rattle.graph.specs.Calls.{inWorkRoom, onGraph, spiderizeStep, spiderizeAllStep};
-ghost use Rattle.form.specs.Form.{written, edgesAt, listsAt};
-ghost use Rattle.links.specs.Links.{cells, marked, Linked};
-ghost use Rattle.form.specs.Stored.{graphOf, Whole, sourcesAt, targetsAt, EdgeAt, portsAt};
-ghost use Rattle.spider.specs.Rewriting.{labelled, Rewritten, RewrittenEdge, RewrittenEdges, rowOf, front, rest, Counted, spidered, answeredWith};
-use form::Fit;
-use form::Listed;
+ghost use Rattle.graph.specs.Calls.{Next, onGraph, roomSpiderize, spiderizeCall, spiderizeNodesCall};
+ghost use Rattle.form.specs.Form.{bodyOf, listsFrom, Gives};
+ghost use Rattle.form.specs.Stored.{graphOf, formatOf, Stored};
+ghost use Rattle.write.specs.Write.{Put, Room, drawn};
+ghost use Rattle.links.specs.Links.{cells, cellCount, isListed, Linked};
+ghost use Rattle.spider.specs.Rewriting.{idsAt, Ids, labelled, more, moreEdges, Pass, Numbered, spidered, Plan};
+use form::Outcome;
 use form::Reading;
-use form::Refusal;
 use form::Sizes;
-use form::Written;
+use form::Step;
+use le::Row;
 
-// The work room of both calls: four cells for each node and one for each fresh node, of 2 bytes.
-pub const ROOM_SPIDERIZE_NODES: usize = 16384;
+// The work room of either call: four cells for each node, or three for each and one for each fresh node.
+pub const ROOM_SPIDERIZE_NODES: usize = 8 * graph::MAX_NODES;
 
-pub const ROOM_SPIDERIZE: usize = 16384;
+pub const ROOM_SPIDERIZE: usize = 8 * graph::MAX_NODES;
 
 // The edge label that says spider.
-const SPIDER: u32 = 4294967295;
+const SPIDER: usize = 4294967295;
 
-// How many of the n entries from `at` on are of listed nodes.
-fn count_list(src: &[u8], at: usize, n: usize, nodes: usize, room: &[u8]) -> usize
-    requires { ⌜ (at + n * 2 ≤ length (now src)) × Below nodes (numbers 2 n (drop at (now src))) × (nodes * 8 ≤ length (now room)) ⌝ }
-    ensures { λ r. ⌜ (r ≡ length (keep (marked nodes (cells (now (room .entry)))) (numbers 2 n (drop at (now (src .entry)))))) × (r ≤ n) ⌝ }
+// How many of the n entries from index j on are of listed nodes.
+fn count_part(src: &[u8], z: Sizes, j: usize, n: usize, room: &[u8]) -> usize
+    requires { ⌜ Ids (now src) z j n × (z .nodes * 4 ≤ cellCount (now room)) ⌝ }
+    ensures { λ c. ⌜ c ≡ length (keep (isListed (z .nodes) (cells (now (room .entry)))) (idsAt (now (src .entry)) z j n)) ⌝ }
 {
+    let row = form::body_row(z);
     let mut count: usize = 0;
-    for k in 0..n {
-        let id = le::get2(src, at + k * form::WIDTH) as usize;
+    for i in 0..n {
+        let id = le::number(src, row, j + i);
         count = count + links::one_if_listed(room, id);
     }
     count
@@ -47,358 +47,319 @@ fn count_list(src: &[u8], at: usize, n: usize, nodes: usize, room: &[u8]) -> usi
 
 // How many entries of the edges are of listed nodes.
 fn count_edges(src: &[u8], z: Sizes, room: &[u8]) -> usize
-    requires { ⌜ Whole (now src) z × (z .nodes * 8 ≤ length (now room)) ⌝ }
-    ensures { λ r. ⌜ (r ≡ length (keep (marked (z .nodes) (cells (now (room .entry)))) (edgeEntries (graphOf (now (src .entry)) .edges)))) × (r ≤ 268435456) ⌝ }
+    requires { ⌜ Stored (now src) z × (z .nodes * 4 ≤ cellCount (now room)) ⌝ }
+    ensures { λ c. ⌜ c ≡ length (keep (isListed (z .nodes) (cells (now (room .entry)))) (edgeEntries (graphOf (now (src .entry)) .edges))) ⌝ }
 {
-    let mut at = form::edges_at(z.nodes, z.edges);
+    let row = form::body_row(z);
+    let mut k: usize = 0;
     let mut count: usize = 0;
     for i in 0..z.edges {
-        let n = form::ports_at(src, at);
-        count = count + count_list(src, at + 4, n, z.nodes, room);
-        at = at + 4 + n * form::WIDTH;
+        let e = form::edge_at(src, row, k);
+        count = count + count_part(src, z, e.first, e.sources + e.targets, room);
+        k = e.end;
     }
     count
 }
 
-// The label of the fresh node of an entry, if its node is listed: written at a place. Answered is the next place.
-fn fresh_label(src: &[u8], id: usize, nodes: usize, room: &[u8], out: &mut [u8], to: usize) -> usize
-    requires { ⌜ (id < nodes) × (nodes * 8 ≤ length (now room)) × (15 + nodes * 4 ≤ length (now src)) × (to + length (keep (marked nodes (cells (now room))) (id ∷ [])) * 4 ≤ length (now out)) ⌝ }
-    ensures { λ r. ⌜ (r ≡ to + length (keep (marked nodes (cells (now (room .entry)))) (id ∷ [])) * 4)
-        × (now (out .exit) ≡ sets (now (out .entry)) to (row 4 (labelled (now (src .entry)) (marked nodes (cells (now (room .entry)))) (id ∷ [])))) ⌝ }
-{
-    if !links::listed(room, id) {
-        return to;
-    }
-    let label = le::get4(src, graph::HEADER_BYTES + id * 4);
-    le::put4(out, to, label);
-    to + 4
-}
-
-// The labels of the fresh nodes of the n entries from `at` on, written from a place on. Answered is the next place.
-fn fresh_labels(
+// The label of the fresh node of an entry, if its node is listed, as number k of a row. Answered is the next index.
+fn fresh_label(
     src: &[u8],
-    at: usize,
-    n: usize,
-    nodes: usize,
+    z: Sizes,
+    id: usize,
     room: &[u8],
     out: &mut [u8],
+    r: Row,
+    k: usize,
+) -> usize
+    requires { ⌜ Stored (now src) z × (id < z .nodes) × (z .nodes * 4 ≤ cellCount (now room)) × Holds (now out) r (k + length (keep (isListed (z .nodes) (cells (now room))) (id ∷ []))) ⌝ }
+    ensures { λ n. ⌜ Put (now (out .entry)) r k (labelled (graphOf (now (src .entry))) (isListed (z .nodes) (cells (now (room .entry)))) (id ∷ [])) (now (out .exit)) n ⌝ }
+{
+    if !links::listed(room, id) {
+        return k;
+    }
+    let label = le::number(src, form::label_row(z), id);
+    le::put_number(out, r, k, label);
+    k + 1
+}
+
+// The labels of the fresh nodes of the n entries from index j on, into a row from an index on. Answered is the next index.
+fn label_part(
+    src: &[u8],
+    z: Sizes,
+    j: usize,
+    n: usize,
+    room: &[u8],
+    out: &mut [u8],
+    r: Row,
     start: usize,
 ) -> usize
-    requires { ⌜ (at + n * 2 ≤ length (now src)) × Below nodes (numbers 2 n (drop at (now src))) × (nodes * 8 ≤ length (now room)) × (15 + nodes * 4 ≤ length (now src))
-        × (start + length (keep (marked nodes (cells (now room))) (numbers 2 n (drop at (now src)))) * 4 ≤ length (now out)) ⌝ }
-    ensures { λ r. ⌜ (r ≡ start + length (keep (marked nodes (cells (now (room .entry)))) (numbers 2 n (drop at (now (src .entry))))) * 4)
-        × (now (out .exit) ≡ sets (now (out .entry)) start (row 4 (labelled (now (src .entry)) (marked nodes (cells (now (room .entry)))) (numbers 2 n (drop at (now (src .entry))))))) ⌝ }
+    requires { ⌜ Ids (now src) z j n × (z .nodes * 4 ≤ cellCount (now room)) × Holds (now out) r (start + length (keep (isListed (z .nodes) (cells (now room))) (idsAt (now src) z j n))) ⌝ }
+    ensures { λ k. ⌜ Put (now (out .entry)) r start (labelled (graphOf (now (src .entry))) (isListed (z .nodes) (cells (now (room .entry)))) (idsAt (now (src .entry)) z j n)) (now (out .exit)) k ⌝ }
 {
-    let mut to = start;
-    for k in 0..n {
-        let id = le::get2(src, at + k * form::WIDTH) as usize;
-        to = fresh_label(src, id, nodes, room, out, to);
+    let row = form::body_row(z);
+    let mut k = start;
+    for i in 0..n {
+        let id = le::number(src, row, j + i);
+        k = fresh_label(src, z, id, room, out, r, k);
     }
-    to
+    k
 }
 
 // Those of all entries of the edges.
-fn fresh_labels_of_edges(src: &[u8], z: Sizes, room: &[u8], out: &mut [u8], start: usize) -> usize
-    requires { ⌜ Whole (now src) z × (z .nodes * 8 ≤ length (now room))
-        × (start + length (keep (marked (z .nodes) (cells (now room))) (edgeEntries (graphOf (now src) .edges))) * 4 ≤ length (now out)) ⌝ }
-    ensures { λ r. ⌜ (r ≡ start + length (keep (marked (z .nodes) (cells (now (room .entry)))) (edgeEntries (graphOf (now (src .entry)) .edges))) * 4)
-        × (now (out .exit) ≡ sets (now (out .entry)) start (row 4 (labelled (now (src .entry)) (marked (z .nodes) (cells (now (room .entry)))) (edgeEntries (graphOf (now (src .entry)) .edges))))) ⌝ }
+fn label_edges(src: &[u8], z: Sizes, room: &[u8], out: &mut [u8], r: Row, start: usize) -> usize
+    requires { ⌜ Stored (now src) z × (z .nodes * 4 ≤ cellCount (now room)) × Holds (now out) r (start + length (keep (isListed (z .nodes) (cells (now room))) (edgeEntries (graphOf (now src) .edges)))) ⌝ }
+    ensures { λ k. ⌜ Put (now (out .entry)) r start (labelled (graphOf (now (src .entry))) (isListed (z .nodes) (cells (now (room .entry)))) (edgeEntries (graphOf (now (src .entry)) .edges))) (now (out .exit)) k ⌝ }
 {
-    let mut at = form::edges_at(z.nodes, z.edges);
-    let mut to = start;
+    let row = form::body_row(z);
+    let mut j: usize = 0;
+    let mut k = start;
     for i in 0..z.edges {
-        let n = form::ports_at(src, at);
-        to = fresh_labels(src, at + 4, n, z.nodes, room, out, to);
-        at = at + 4 + n * form::WIDTH;
+        let e = form::edge_at(src, row, j);
+        k = label_part(src, z, e.first, e.sources + e.targets, room, out, r, k);
+        j = e.end;
     }
-    to
+    k
 }
 
-// An entry rewritten: a fresh node for it, numbered `next`, if its node is listed. Answered is the next fresh node.
-fn rewrite_occurrence(
+// The entry at index j rewritten into a row: a fresh node for it, numbered `next`, if its node is listed. Answered is the next fresh node.
+fn rewrite_entry(
     src: &[u8],
-    from: usize,
-    nodes: usize,
+    z: Sizes,
+    j: usize,
     kind: usize,
     next: usize,
     room: &mut [u8],
     out: &mut [u8],
-    to: usize,
+    r: Row,
+    k: usize,
 ) -> usize
-    requires { ⌜ (from + 2 ≤ length (now src)) × (numberAt 2 (now src) from < nodes) × (kind < 4) × (nodes ≤ next)
-        × (next + length (keep (marked nodes (cells (now room))) (numberAt 2 (now src) from ∷ [])) ≤ 2048) × ((nodes * 3 + 2048) * 2 ≤ length (now room)) × (to + 2 ≤ length (now out)) ⌝ }
-    ensures { λ r. ⌜ (r ≡ after (marked nodes (cells (now (room .entry)))) next (numberAt 2 (now (src .entry)) from ∷ []))
-        × (now (out .exit) ≡ sets (now (out .entry)) to (row 2 (freshened (marked nodes (cells (now (room .entry)))) next (numberAt 2 (now (src .entry)) from ∷ []))))
-        × Rewritten nodes kind next (numberAt 2 (now (src .entry)) from ∷ []) (cells (now (room .entry))) (cells (now (room .exit))) ⌝ }
+    requires { ⌜ Ids (now src) z j 1 × (kind < 4) × Numbered (z .nodes) next (after (isListed (z .nodes) (cells (now room))) next (idsAt (now src) z j 1)) (now room) × Holds (now out) r (k + 1) ⌝ }
+    ensures { λ n. ⌜ Pass (isListed (z .nodes) (cells (now (room .entry)))) (z .nodes) next (cells (now (room .entry))) (now (out .entry)) r k (idsAt (now (src .entry)) z j 1)
+        (freshened (isListed (z .nodes) (cells (now (room .entry)))) next (idsAt (now (src .entry)) z j 1)) (more (isListed (z .nodes) (cells (now (room .entry)))) kind next (idsAt (now (src .entry)) z j 1))
+        (cells (now (room .exit))) (now (out .exit)) n ⌝ }
 {
-    let id = le::get2(src, from) as usize;
+    let id = le::number(src, form::body_row(z), j);
     if !links::listed(room, id) {
-        le::put2(out, to, id as u32);
+        le::put_number(out, r, k, id);
         return next;
     }
-    links::link(room, nodes, id, kind, next);
-    le::put2(out, to, next as u32);
+    links::link(room, z.nodes, id, kind, next);
+    le::put_number(out, r, k, next);
     next + 1
 }
 
-// The n entries from a place on rewritten, all of one kind, the fresh nodes numbered on from `next`. Answered is the next fresh node.
-fn rewrite_list(
+// The n entries from index j on rewritten into a row from index k on, all of one kind, the fresh nodes numbered on from `start`. Answered is the next fresh node.
+fn rewrite_part(
     src: &[u8],
-    from: usize,
+    z: Sizes,
+    j: usize,
     n: usize,
-    nodes: usize,
     kind: usize,
     start: usize,
     room: &mut [u8],
     out: &mut [u8],
-    to: usize,
+    r: Row,
+    k: usize,
 ) -> usize
-    requires { ⌜ (from + n * 2 ≤ length (now src)) × Below nodes (numbers 2 n (drop from (now src))) × (kind < 4) × (nodes ≤ start)
-        × (start + length (keep (marked nodes (cells (now room))) (numbers 2 n (drop from (now src)))) ≤ 2048) × ((nodes * 3 + 2048) * 2 ≤ length (now room)) × (to + n * 2 ≤ length (now out)) ⌝ }
-    ensures { λ r. ⌜ (r ≡ after (marked nodes (cells (now (room .entry)))) start (numbers 2 n (drop from (now (src .entry)))))
-        × (now (out .exit) ≡ sets (now (out .entry)) to (row 2 (freshened (marked nodes (cells (now (room .entry)))) start (numbers 2 n (drop from (now (src .entry)))))))
-        × Rewritten nodes kind start (numbers 2 n (drop from (now (src .entry)))) (cells (now (room .entry))) (cells (now (room .exit))) ⌝ }
+    requires { ⌜ Ids (now src) z j n × (kind < 4) × Numbered (z .nodes) start (after (isListed (z .nodes) (cells (now room))) start (idsAt (now src) z j n)) (now room) × Holds (now out) r (k + n) ⌝ }
+    ensures { λ next. ⌜ Pass (isListed (z .nodes) (cells (now (room .entry)))) (z .nodes) start (cells (now (room .entry))) (now (out .entry)) r k (idsAt (now (src .entry)) z j n)
+        (freshened (isListed (z .nodes) (cells (now (room .entry)))) start (idsAt (now (src .entry)) z j n)) (more (isListed (z .nodes) (cells (now (room .entry)))) kind start (idsAt (now (src .entry)) z j n))
+        (cells (now (room .exit))) (now (out .exit)) next ⌝ }
 {
     let mut next = start;
-    for k in 0..n {
-        next = rewrite_occurrence(
+    for i in 0..n {
+        next = rewrite_entry(src, z, j + i, kind, next, room, out, r, k + i);
+    }
+    next
+}
+
+// All edges rewritten into a row, where they stand in their own: the counts stay. Answered is the next fresh node.
+fn rewrite_edges(src: &[u8], z: Sizes, room: &mut [u8], out: &mut [u8], r: Row) -> usize
+    requires { ⌜ Stored (now src) z × Numbered (z .nodes) (z .nodes) (after (isListed (z .nodes) (cells (now room))) (z .nodes) (edgeEntries (graphOf (now src) .edges))) (now room)
+        × Holds (now out) r (listsFrom z) ⌝ }
+    ensures { λ next. ⌜ Pass (isListed (z .nodes) (cells (now (room .entry)))) (z .nodes) (z .nodes) (cells (now (room .entry))) (now (out .entry)) r 0 (edgeEntries (graphOf (now (src .entry)) .edges))
+        (joined edgeRow (freshenedEdges (isListed (z .nodes) (cells (now (room .entry)))) (z .nodes) (graphOf (now (src .entry)) .edges)))
+        (moreEdges (isListed (z .nodes) (cells (now (room .entry)))) (z .nodes) (graphOf (now (src .entry)) .edges)) (cells (now (room .exit))) (now (out .exit)) next ⌝ }
+{
+    let row = form::body_row(z);
+    let mut k: usize = 0;
+    let mut next = z.nodes;
+    for i in 0..z.edges {
+        let e = form::edge_at(src, row, k);
+        write::put_two(out, r, k, e.sources, e.targets);
+        let second = e.first + e.sources;
+        let middle = rewrite_part(
             src,
-            from + k * form::WIDTH,
-            nodes,
-            kind,
+            z,
+            e.first,
+            e.sources,
+            links::EDGE_SOURCE,
             next,
             room,
             out,
-            to + k * form::WIDTH,
+            r,
+            e.first,
         );
+        next = rewrite_part(
+            src,
+            z,
+            second,
+            e.targets,
+            links::EDGE_TARGET,
+            middle,
+            room,
+            out,
+            r,
+            second,
+        );
+        k = e.end;
     }
     next
 }
 
-// The edge at a place rewritten: its counts as they stand, its sources, its targets. Answered is the next fresh node.
-fn rewrite_edge(
-    src: &[u8],
-    at: usize,
-    nodes: usize,
-    next: usize,
-    room: &mut [u8],
-    out: &mut [u8],
-    to: usize,
-) -> usize
-    requires { ⌜ EdgeAt (now src) at nodes × (nodes ≤ next) × (next + length (keep (marked nodes (cells (now room))) (sourcesAt (now src) at)) + length (keep (marked nodes (cells (now room))) (targetsAt (now src) at)) ≤ 2048)
-        × ((nodes * 3 + 2048) * 2 ≤ length (now room)) × (to + 4 + portsAt (now src) at * 2 ≤ length (now out)) ⌝ }
-    ensures { λ r. ⌜ (r ≡ after (marked nodes (cells (now (room .entry)))) (after (marked nodes (cells (now (room .entry)))) next (sourcesAt (now (src .entry)) at)) (targetsAt (now (src .entry)) at))
-        × (now (out .exit) ≡ sets (now (out .entry)) to (rowOf (freshened (marked nodes (cells (now (room .entry)))) next (sourcesAt (now (src .entry)) at))
-        (freshened (marked nodes (cells (now (room .entry)))) (after (marked nodes (cells (now (room .entry)))) next (sourcesAt (now (src .entry)) at)) (targetsAt (now (src .entry)) at))))
-        × RewrittenEdge nodes next (sourcesAt (now (src .entry)) at) (targetsAt (now (src .entry)) at) (cells (now (room .entry))) (cells (now (room .exit))) ⌝ }
+// The label of n spiders, into a row from index k on.
+fn put_spider_labels(out: &mut [u8], r: Row, k: usize, n: usize)
+    requires { ⌜ Holds (now out) r (k + n) ⌝ }
+    ensures { λ _. ⌜ now (out .exit) ≡ puts (now (out .entry)) r k (replicate n spider) ⌝ }
 {
-    let sources = le::get2(src, at) as usize;
-    let targets = le::get2(src, at + form::WIDTH) as usize;
-    form::put_two(out, to, sources, targets);
-    let first = at + 4;
-    let second = first + sources * form::WIDTH;
-    let middle = rewrite_list(
-        src,
-        first,
-        sources,
-        nodes,
-        links::EDGE_SOURCE,
-        next,
-        room,
-        out,
-        to + 4,
-    );
-    rewrite_list(
-        src,
-        second,
-        targets,
-        nodes,
-        links::EDGE_TARGET,
-        middle,
-        room,
-        out,
-        to + 4 + sources * form::WIDTH,
-    )
-}
-
-// All edges rewritten, from a place on. Answered is the next fresh node.
-fn rewrite_edges(src: &[u8], z: Sizes, room: &mut [u8], out: &mut [u8], start: usize) -> usize
-    requires { ⌜ Whole (now src) z × (z .nodes + length (keep (marked (z .nodes) (cells (now room))) (edgeEntries (graphOf (now src) .edges))) ≤ 2048)
-        × ((z .nodes * 3 + 2048) * 2 ≤ length (now room)) × (start + (2 * z .edges + z .ports) * 2 ≤ length (now out)) ⌝ }
-    ensures { λ r. ⌜ (r ≡ after (marked (z .nodes) (cells (now (room .entry)))) (z .nodes) (edgeEntries (graphOf (now (src .entry)) .edges)))
-        × (now (out .exit) ≡ sets (now (out .entry)) start (joined (edgeBytes form1) (freshenedEdges (marked (z .nodes) (cells (now (room .entry)))) (z .nodes) (graphOf (now (src .entry)) .edges))))
-        × RewrittenEdges (z .nodes) (graphOf (now (src .entry)) .edges) (cells (now (room .entry))) (cells (now (room .exit))) ⌝ }
-{
-    let mut at = form::edges_at(z.nodes, z.edges);
-    let mut to = start;
-    let mut next = z.nodes;
-    for i in 0..z.edges {
-        let n = form::ports_at(src, at);
-        next = rewrite_edge(src, at, z.nodes, next, room, out, to);
-        let step = 4 + n * form::WIDTH;
-        at = at + step;
-        to = to + step;
-    }
-    next
-}
-
-// The label of n spiders, from a place on.
-fn put_spider_labels(out: &mut [u8], at: usize, n: usize)
-    requires { ⌜ at + n * 4 ≤ length (now out) ⌝ }
-    ensures { λ _. ⌜ now (out .exit) ≡ sets (now (out .entry)) at (row 4 (replicate n spider)) ⌝ }
-{
-    for k in 0..n {
-        le::put4(out, at + k * 4, SPIDER);
+    for i in 0..n {
+        le::put_number(out, r, k + i, SPIDER);
     }
 }
 
-// The spiderized form up to its edge labels: the header, the node labels and those of the fresh nodes, the edge labels and those of the spiders.
-fn put_front(src: &[u8], z: Sizes, fresh: usize, spiders: usize, room: &[u8], out: &mut [u8])
-    requires { ⌜ Counted (now src) z (cells (now room)) fresh spiders × (z .nodes * 8 ≤ length (now room)) × (edgesAt (z .nodes + fresh) (z .edges + spiders) ≤ length (now out)) ⌝ }
-    ensures { λ _. ⌜ now (out .exit) ≡ sets (now (out .entry)) 0 (front (spidered (now (src .entry)) z (cells (now (room .entry))))) ⌝ }
+// The spiderized form up to its labels: the header, the node labels and those of the fresh nodes, the edge labels and those of the spiders.
+fn put_front(src: &[u8], z: Sizes, y: Sizes, room: &[u8], out: &mut [u8])
+    requires { ⌜ Plan (now src) z y (now room) × Room (now out) y ⌝ }
+    ensures { λ _. ⌜ now (out .exit) ≡ drawn (now (out .entry)) y (labelRow (spidered (now (src .entry)) z (cells (now (room .entry))))) [] ⌝ }
 {
-    form::put_header(
-        out,
-        z.nodes + fresh,
-        z.edges + spiders,
-        z.sources,
-        z.targets,
-        z.pairs,
-    );
-    let labels = z.nodes * 4;
-    le::copy(out, graph::HEADER_BYTES, src, graph::HEADER_BYTES, labels);
-    let after_edges = fresh_labels_of_edges(src, z, room, out, graph::HEADER_BYTES + labels);
-    let lists = form::lists_at(z.nodes, z.edges, z.ports);
-    let to = fresh_labels(
+    write::put_header(out, y);
+    let from = form::label_row(z);
+    let to = form::label_row(y);
+    le::copy_numbers(out, to, 0, src, from, 0, z.nodes);
+    let j = label_edges(src, z, room, out, to, z.nodes);
+    let k = label_part(
         src,
-        lists,
+        z,
+        2 * z.edges + z.ports,
         z.sources + z.targets,
-        z.nodes,
         room,
         out,
-        after_edges,
+        to,
+        j,
     );
-    le::copy(out, to, src, graph::HEADER_BYTES + labels, z.edges * 4);
-    put_spider_labels(out, to + z.edges * 4, spiders);
+    le::copy_numbers(out, to, k, src, from, z.nodes, z.edges);
+    put_spider_labels(out, to, k + z.edges, y.edges - z.edges);
 }
 
-// Replaces the entries of listed nodes, and builds their spiders: the spiderized form from its edges on.
-fn rewrite_occurrences(
-    src: &[u8],
-    z: Sizes,
-    fresh: usize,
-    spiders: usize,
-    room: &mut [u8],
-    out: &mut [u8],
-)
-    requires { ⌜ Counted (now src) z (cells (now room)) fresh spiders × ((z .nodes * 3 + 2048) * 2 ≤ length (now room)) × Linked (z .nodes) (cells (now room)) (z .nodes) (λ k x. [])
-        × (listsAt (z .nodes + fresh) (z .edges + spiders) (z .ports + (spiders + fresh)) + (z .sources + z .targets) * 2 ≤ length (now out)) ⌝ }
-    ensures { λ _. ⌜ now (out .exit) ≡ sets (now (out .entry)) (edgesAt (z .nodes + fresh) (z .edges + spiders)) (rest (spidered (now (src .entry)) z (cells (now (room .entry))))) ⌝ }
+// Replaces the entries of listed nodes, and builds their spiders: all counts and ids of the spiderized form.
+fn rewrite_all(src: &[u8], z: Sizes, y: Sizes, room: &mut [u8], out: &mut [u8])
+    requires { ⌜ Plan (now src) z y (now room) × Room (now out) y ⌝ }
+    ensures { λ _. ⌜ now (out .exit) ≡ puts (now (out .entry)) (bodyOf y) 0 (body (spidered (now (src .entry)) z (cells (now (room .entry))))) ⌝ }
 {
-    let start = form::edges_at(z.nodes + fresh, z.edges + spiders);
-    let next = rewrite_edges(src, z, room, out, start);
-    let from = form::lists_at(z.nodes, z.edges, z.ports);
-    let to = form::lists_at(
-        z.nodes + fresh,
-        z.edges + spiders,
-        z.ports + (spiders + fresh),
-    );
-    let last = rewrite_list(
+    let row = form::body_row(y);
+    let next = rewrite_edges(src, z, room, out, row);
+    let from = 2 * z.edges + z.ports;
+    let to = 2 * y.edges + y.ports;
+    let last = rewrite_part(
         src,
+        z,
         from,
         z.sources,
-        z.nodes,
         links::GLOBAL_SOURCE,
         next,
         room,
         out,
+        row,
         to,
     );
-    rewrite_list(
+    rewrite_part(
         src,
-        from + z.sources * form::WIDTH,
+        z,
+        from + z.sources,
         z.targets,
-        z.nodes,
         links::GLOBAL_TARGET,
         last,
         room,
         out,
-        to + z.sources * form::WIDTH,
+        row,
+        to + z.sources,
     );
-    links::put_spiders(
-        room,
-        z.nodes,
-        out,
-        start + (2 * z.edges + z.ports) * form::WIDTH,
-    );
+    links::put_spiders(room, z.nodes, out, row, from);
 }
 
 // The graph spiderized at the nodes that the table lists: 9 and 10, or its form.
-fn write_spiderized(src: &[u8], z: Sizes, room: &mut [u8], out: &mut [u8]) -> Written
-    requires { ⌜ Whole (now src) z × (z .pairs ≡ 0) × (16384 ≤ length (now room)) × Linked (z .nodes) (cells (now room)) (z .nodes) (λ k x. []) ⌝ }
-    ensures { λ r. ⌜ r ≡ written (answeredWith (now (src .entry)) z (cells (now (room .entry))) (length (now (out .entry)))) ⌝ }
-    ensures { λ r. ⌜ now (out .exit) ≡ laid (λ m. m .form) (answeredWith (now (src .entry)) z (cells (now (room .entry))) (length (now (out .entry)))) (now (out .entry)) ⌝ }
+fn write_spiderized(src: &[u8], z: Sizes, room: &mut [u8], out: &mut [u8]) -> Outcome
+    requires { ⌜ Stored (now src) z × (z .pairs ≡ 0) × (roomSpiderize ≤ length (now room)) × Linked (z .nodes) (cells (now room)) (z .nodes) (λ k x. [])
+        × ((ids : List ℕ) × (isListed (z .nodes) (cells (now room)) ≡ among ids)) ⌝ }
+    ensures { λ r. ⌜ ((next : Format → Graph → Answer Next)
+        → next (formatOf (now (src .entry))) (graphOf (now (src .entry))) ≡ answered (record { graph = spidered (now (src .entry)) z (cells (now (room .entry))); id = 0 })
+        → Gives (onGraph (now (src .entry)) (length (now (out .entry))) next) r (now (out .entry)) (now (out .exit))) ⌝ }
 {
-    let lists = form::lists_at(z.nodes, z.edges, z.ports);
-    let fresh = count_edges(src, z, room)
-        + count_list(src, lists, z.sources + z.targets, z.nodes, room);
+    let lists = 2 * z.edges + z.ports;
+    let fresh = count_edges(src, z, room) + count_part(src, z, lists, z.sources + z.targets, room);
     let spiders = 2 * links::count_listed(room, z.nodes);
-    let size = Sizes {
-        nodes: z.nodes + fresh,
-        edges: z.edges + spiders,
-        ports: z.ports + (spiders + fresh),
-        sources: z.sources,
-        targets: z.targets,
-        pairs: z.pairs,
+    let y = write::sized(
+        z.nodes + fresh,
+        z.edges + spiders,
+        z.ports + (spiders + fresh),
+        z.sources,
+        z.targets,
+        z.pairs,
+    );
+    let size = write::result_size(y, out.len());
+    let Step::Number(bytes) = size else {
+        return Outcome::Refused(size.refusal());
     };
-    let fit = form::result_size(size, out.len());
-    let Fit::Bytes(bytes) = fit else {
-        return Written::Refused(fit.refusal());
-    };
-    put_front(src, z, fresh, spiders, room, out);
-    rewrite_occurrences(src, z, fresh, spiders, room, out);
-    Written::Done { bytes, id: 0 }
+    put_front(src, z, y, room, out);
+    rewrite_all(src, z, y, room, out);
+    Outcome::Done { a: bytes, b: 0 }
 }
 
 // The graph spiderized at the nodes of a list.
-pub fn spiderize_nodes(src: &[u8], ids: &[u8], out: &mut [u8], room: &mut [u8]) -> Written
-    ensures { λ r. ⌜ r ≡ written (inWorkRoom 16384 (length (now (room .entry))) (onGraph form1 (now (src .entry)) (length (now (out .entry))) (spiderizeStep form1 (now (ids .entry))))) ⌝ }
-    ensures { λ r. ⌜ now (out .exit) ≡ laid (λ m. m .form) (inWorkRoom 16384 (length (now (room .entry))) (onGraph form1 (now (src .entry)) (length (now (out .entry))) (spiderizeStep form1 (now (ids .entry))))) (now (out .entry)) ⌝ }
+pub fn spiderize_nodes(src: &[u8], ids: &[u8], out: &mut [u8], room: &mut [u8]) -> Outcome
+    ensures { λ r. ⌜ Gives (spiderizeNodesCall (now (src .entry)) (now (ids .entry)) (length (now (out .entry))) (length (now (room .entry)))) r (now (out .entry)) (now (out .exit)) ⌝ }
 {
-    if room.len() < ROOM_SPIDERIZE_NODES {
-        return Written::Refused(Refusal { no: 10 });
-    }
-    let graph = form::read(src);
+    let lent = read::work_room(room.len(), ROOM_SPIDERIZE_NODES);
+    let Step::Number(_) = lent else {
+        return Outcome::Refused(lent.refusal());
+    };
+    let graph = read::read(src);
     let Reading::Sized(z) = graph else {
-        return Written::Refused(graph.refusal());
+        return Outcome::Refused(graph.refusal());
     };
-    let list = form::id_list(ids, z.nodes);
-    let Listed::Entries(n) = list else {
-        return Written::Refused(list.refusal());
+    let list = read::id_list(ids, z.width, z.nodes);
+    let Step::Number(n) = list else {
+        return Outcome::Refused(list.refusal());
     };
-    if z.pairs != 0 {
-        return Written::Refused(Refusal { no: 8 });
-    }
+    let pairs = read::unpaired(z);
+    let Step::Number(_) = pairs else {
+        return Outcome::Refused(pairs.refusal());
+    };
+    let row = Row {
+        at: 0,
+        width: z.width,
+    };
     links::list_none(room, z.nodes);
-    links::list_ids(room, ids, n, z.nodes);
+    links::list_ids(room, ids, row, n, z.nodes);
     write_spiderized(src, z, room, out)
 }
 
 // The graph spiderized at all its nodes.
-pub fn spiderize(src: &[u8], out: &mut [u8], room: &mut [u8]) -> Written
-    ensures { λ r. ⌜ r ≡ written (inWorkRoom 16384 (length (now (room .entry))) (onGraph form1 (now (src .entry)) (length (now (out .entry))) spiderizeAllStep)) ⌝ }
-    ensures { λ r. ⌜ now (out .exit) ≡ laid (λ m. m .form) (inWorkRoom 16384 (length (now (room .entry))) (onGraph form1 (now (src .entry)) (length (now (out .entry))) spiderizeAllStep)) (now (out .entry)) ⌝ }
+pub fn spiderize(src: &[u8], out: &mut [u8], room: &mut [u8]) -> Outcome
+    ensures { λ r. ⌜ Gives (spiderizeCall (now (src .entry)) (length (now (out .entry))) (length (now (room .entry)))) r (now (out .entry)) (now (out .exit)) ⌝ }
 {
-    if room.len() < ROOM_SPIDERIZE {
-        return Written::Refused(Refusal { no: 10 });
-    }
-    let graph = form::read(src);
-    let Reading::Sized(z) = graph else {
-        return Written::Refused(graph.refusal());
+    let lent = read::work_room(room.len(), ROOM_SPIDERIZE);
+    let Step::Number(_) = lent else {
+        return Outcome::Refused(lent.refusal());
     };
-    if z.pairs != 0 {
-        return Written::Refused(Refusal { no: 8 });
-    }
+    let graph = read::read(src);
+    let Reading::Sized(z) = graph else {
+        return Outcome::Refused(graph.refusal());
+    };
+    let pairs = read::unpaired(z);
+    let Step::Number(_) = pairs else {
+        return Outcome::Refused(pairs.refusal());
+    };
     links::list_all(room, z.nodes);
     write_spiderized(src, z, room, out)
 }

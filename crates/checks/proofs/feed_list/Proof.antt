@@ -1,82 +1,81 @@
 -- `checks::feed_list` meets its contract.
 -- Assumes nothing.
 use mathlib.Core.Bool.{true}
-use mathlib.Core.Path.{_≡_, refl, sym, _∙_}
-use Prim.Native.Nat.{_*_, _≤_, _<_, _-_}
+use mathlib.Core.Path.{_≡_, refl, _∙_}
+use Prim.Native.Nat.{_≤_, _<_, _-_}
 use native.Mathlib.Nat.{le-antisymm}
 use native.Mathlib.Omega.{arith}
-use lib.ListN.{length, drop}
+use lib.ListN.{length}
 use denote.Ref.{now}
 use borrow.Author.Tests.{not-true, not-false}
 use Rattle.checks.specs.Fed.{Feeds}
-use Rattle.le.specs.Le.{numberAt, numbers}
-use Rattle.le.proofs.Places.{number-drop, read-below}
+use Rattle.le.specs.Rows.{span}
+use Rattle.le.proofs.Numbers.{below-at}
+use Rattle.le.proofs.Rows.{holds-less, holds-index, length-span, span-at}
 use Rattle.checks.proofs.Fed.{list-start, list-turn, list-stop}
 use Rattle.checks.proofs.feed_list.Statement.{statement}
 use Rattle.checks.proofs.feed_list.Tie as tie
 
 abbrev Inv-loop : tie.InvT-loop
-Inv-loop src at n nodes room₀ way k₀ room k = (k ≤ n) × (length room ≡ length room₀) × Feeds room₀ room nodes true way (numbers 2 k (drop at src))
+Inv-loop src r k n nodes room₀ way i₀ room i = (i ≤ n) × (length room ≡ length room₀) × Feeds room₀ room nodes true way (span src r k i)
 
 abbrev μ-loop : tie.MeasureT-loop
-μ-loop src at n nodes room₀ way k₀ room k = n - k
+μ-loop src r k n nodes room₀ way i₀ room i = n - i
 
--- the id that was read is the list's, and below the node count
-read : (c : tie.After-get2 Inv-loop μ-loop)
-    → (c .get2 .result ≡ numberAt 2 (drop (c .before .before .before .before .before .args .at) (c .before .before .before .before .before .args .src .now)) (c .before .before .loop .k * 2))
-    × (c .get2 .result < c .before .before .before .before .before .args .nodes)
-read c =
-    let s = c .before .before .before .before .before in
-    let k = c .before .before .loop .k in
-    let e = c .get2 .ensures .0 ∙ sym (number-drop 2 (now (s .args .src)) (s .args .at) (k * 2)) in
-    (e, read-below (s .args .nodes) 2 (s .args .n) (drop (s .args .at) (now (s .args .src))) (s .pre .1) k (omega arith) (c .get2 .result) e)
+-- the id that was read is below the node count
+known : (c : tie.After-number Inv-loop μ-loop) → c .number .result < c .before .before .before .before .before .args .nodes
+known c =
+    let a = c .before .before .before .before .before .args in
+    let i = c .before .before .loop .i in
+    let b = now (a .src) in
+    omega (
+      arith,
+      c .number .ensures .0,
+      span-at b (a .r) (a .k) (a .n) i (omega arith),
+      below-at (a .nodes) (span b (a .r) (a .k) (a .n)) i (c .before .before .before .before .before .pre .1) (omega (arith, length-span b (a .r) (a .k) (a .n))),
+    )
 
 loop-holds : tie.Need-loop-holds Inv-loop μ-loop
-loop-holds c =
-    let a = c .before .before .args in
-    (omega arith, refl, list-start (now (a .room)) (a .nodes) (a .way) (a .n) (drop (a .at) (now (a .src))))
+loop-holds c = let a = c .before .before .args in (omega arith, refl, list-start (now (a .room)) (a .nodes) (a .way) (now (a .src)) (a .r) (a .k))
 
-mul-get2 : tie.Need-mul-get2 Inv-loop μ-loop
-mul-get2 c = omega arith
+add-number : tie.Need-add-number Inv-loop μ-loop
+add-number c = omega (arith, holds-index (c .before .before .before .before .pre .0))
 
-add-get2 : tie.Need-add-get2 Inv-loop μ-loop
-add-get2 c = omega arith
-
-get2-requires : tie.Need-get2-requires Inv-loop μ-loop
-get2-requires c κs = omega arith
-
-cast-id : tie.Need-cast-id Inv-loop μ-loop
-cast-id c = omega arith
+number-requires : tie.Need-number-requires Inv-loop μ-loop
+number-requires c κs = holds-less (c .before .before .before .before .pre .0) _ (omega arith)
 
 feed-requires : tie.Need-feed-requires Inv-loop μ-loop
-feed-requires c κs = (omega (arith, read (c .before) .1), c .before .before .before .before .before .before .pre .3)
+feed-requires c κs = (omega (arith, known (c .before)), c .before .before .before .before .before .before .pre .3)
 
 same-length : tie.Need-same-length Inv-loop μ-loop
 same-length c = c .before .before .before .feed .kept .0 ∙ c .before .before .before .before .before .before .before .loop .inv .1
 
 returns : tie.Need-returns Inv-loop μ-loop
 returns c =
-    let S = c .before .before .before .before .before .before .before .before .before .before in
-    let a = S .args in
+    let a = c .before .before .before .before .before .before .before .before .before .before .args in
     let l = c .before .before .before .before .before .before .before .loop in
     let f = c .before .before .before .feed in
-    let r = read (c .before .before .before .before .before) in
-    list-stop (now (a .room)) (a .nodes) (a .way) (a .n) (drop (a .at) (now (a .src))) (l .k) (omega arith) (l .room) (l .inv .2) (c .before .before .before .before .before .get2 .result) (r .0) (r .1) (omega arith) (S .pre .3) (f .result) (f .ensures .0) (f .last .0) (f .ensures .1) (not-true _ (c .if1 .taken))
+    let x = c .before .before .before .before .before .number in
+    list-stop (now (a .room)) (a .nodes) (a .way) (now (a .src)) (a .r) (a .k) (a .n) (l .i) (omega arith) (l .room) (l .inv .2) (x .result) (x .ensures .0) (known (c .before .before .before .before .before)) (omega arith)
+    (c .before .before .before .before .before .before .before .before .before .before .pre .3) (f .result) (f .ensures .0) (f .last .0) (f .ensures .1) (not-true _ (c .if1 .taken))
 
-add-k : tie.Need-add-k Inv-loop μ-loop
-add-k c = omega arith
+add-i : tie.Need-add-i Inv-loop μ-loop
+add-i c = omega arith
 
 loop-less : tie.Need-loop-less Inv-loop μ-loop
 loop-less c = omega arith
 
 loop-again : tie.Need-loop-again Inv-loop μ-loop
 loop-again c =
-    let S = c .before .before .before .before .before .before .before .before .before .before in
-    let a = S .args in
+    let a = c .before .before .before .before .before .before .before .before .before .before .args in
     let l = c .before .before .before .before .before .before .before .loop in
     let f = c .before .before .before .feed in
-    let r = read (c .before .before .before .before .before) in
-    (omega arith, f .kept .0 ∙ l .inv .1, list-turn (now (a .room)) (a .nodes) (a .way) (a .n) (drop (a .at) (now (a .src))) (l .k) (omega arith) (l .room) (l .inv .2) (c .before .before .before .before .before .get2 .result) (r .0) (r .1) (omega arith) (S .pre .3) (f .result) (f .ensures .0) (f .last .0) (f .ensures .1) (not-false _ (c .if1 .left)))
+    let x = c .before .before .before .before .before .number in (
+      omega arith,
+      f .kept .0 ∙ l .inv .1,
+      list-turn (now (a .room)) (a .nodes) (a .way) (now (a .src)) (a .r) (a .k) (a .n) (l .i) (omega arith) (l .room) (l .inv .2) (x .result) (x .ensures .0) (known (c .before .before .before .before .before)) (omega arith)
+          (c .before .before .before .before .before .before .before .before .before .before .pre .3) (f .result) (f .ensures .0) (f .last .0) (f .ensures .1) (not-false _ (c .if1 .left)),
+    )
 
 same-length-2 : tie.Need-same-length-2 Inv-loop μ-loop
 same-length-2 c = c .before .loop .inv .1
@@ -94,14 +93,12 @@ feed-list-spec =
     Inv-loop
     μ-loop
     loop-holds
-    mul-get2
-    add-get2
-    get2-requires
-    cast-id
+    add-number
+    number-requires
     feed-requires
     same-length
     returns
-    add-k
+    add-i
     loop-less
     loop-again
     same-length-2

@@ -1,34 +1,66 @@
 -- `checks::once_fed` meets its contract.
 -- Assumes nothing.
-use mathlib.Core.List.{[]}
-use mathlib.Core.Path.{sym, ap, _∙_, subst}
-use Prim.Native.Nat.{ℕ}
+use mathlib.Core.Bool.{Bool, cond}
+use mathlib.Core.Path.{_≡_, sym, ap, _∙_}
 use native.Mathlib.Omega.{arith}
 use lib.ListN.{length}
 use denote.Ref.{now}
 use borrow.Author.Needs.{needs}
-use Rattle.checks.specs.Fed.{Fed}
-use Rattle.form.specs.Stored.{graphOf}
-use Rattle.form.specs.Form.{readRefusal}
-use Rattle.form.specs.declared.Checked.the-variants.{Refused}
+use Rattle.form.specs.Form.{outcome}
+use Rattle.form.specs.Stored.{Stored}
+use Rattle.form.specs.declared.Outcome.the-variants.{Done}
+use Rattle.form.specs.declared.Sizes.{Sizes}
+use Rattle.graph.specs.Answer.{Answer, Result, answered, saying}
+use Rattle.graph.specs.Calls.{roomOnceFed, fedOnce, onceFedCall}
 use Rattle.graph.specs.Checks.{onceFed}
-use Rattle.form.proofs.Whole.{Stored, stored-graph, stored-limits, unread}
+use Rattle.graph.specs.Graph.{Graph}
+use Rattle.graph.specs.Versions as versions
+use Rattle.form.proofs.Stored.{stored}
 use Rattle.le.proofs.Numbers.{below-each}
-use Rattle.checks.proofs.Calls.{short-room, not-read, pending, decided}
-use Rattle.checks.proofs.Fed.{fed-cleared}
-use Rattle.form.proofs.Walk.{whole-of, node-count}
+use Rattle.form.proofs.Pairless.{room-short, room-enough, graph-unread, graph-paired, graph-pairless}
 use Rattle.checks.proofs.once_fed.Statement.{statement}
 use Rattle.checks.proofs.once_fed.Tie as tie
 
+-- the answer
+abbrev next : versions.Stored → Graph → Answer Result
+next s g = answered (saying (onceFed g))
+
 -- the form that was read
-form : (c : tie.After-known-told) → Stored (now (c .before .before .before .before .before .before .before .args .src)) (c .before .graph .given .0 .0)
+form : (c : tie.After-known-told) → Stored (now (c .before .before .before .before .before .before .before .before .before .args .src)) (c .before .graph .given .0 .0)
 form c =
-    let b = now (c .before .before .before .before .before .before .before .args .src) in
-    stored-graph b (below-each 256 b (λ i l. omega (arith, c .before .before .before .before .before .before .shared-slice-known .given i)))
-    (c .before .before .before .read .result) (c .before .before .before .read .ensures) (c .before .graph .given .0 .0) (c .before .graph .given .1)
+    let b = now (c .before .before .before .before .before .before .before .before .before .args .src) in
+    let r = c .before .before .before .read in
+    let g = c .before .graph .given in
+    stored b (r .result) (r .ensures) (below-each 256 b (λ i l. omega (arith, c .before .before .before .before .before .before .before .before .shared-slice-known .given i))) (g .0 .0) (g .1)
+
+-- what was found
+decided : (c : tie.After-feed-edges) → let a = c .before .before .before .before .before .before .before .before .before .before .before .before .before .before .args in outcome (onceFedCall (now (a .src)) (length (now (a .room)))) ≡ Done (cond (c .feed-edges .result) 1 0) 0
+unfolding fedOnce
+decided c =
+    let w = c .before .before .before .before .before .before .before .before .before .before .before .work-room in
+    let p = c .before .before .before .before .unpaired in
+    ap outcome (graph-pairless (now (c .before .before .before .before .before .before .before .before .before .before .before .before .before .before .args .src)) roomOnceFed _ next (w .result) (w .ensures) _ (c .before .before .before .before .before .before .before .before .before .enum-told .given .1) (form (c .before .before .before .before .before))
+    (p .result) (p .ensures) _ (c .before .before .enum-told4 .given .1))
+    ∙ ap (λ (yes : Bool). Done (cond yes 1 0) 0) (sym (c .feed-edges .ensures))
+
+work-room-requires : tie.Need-work-room-requires
+work-room-requires c κs = search needs
+
+enum-told : tie.Need-enum-told
+enum-told c = search needs
+
+enum-told-2 : tie.Need-enum-told-2
+enum-told-2 c = search needs
+
+refusal-requires : tie.Need-refusal-requires
+refusal-requires c κs = search needs
 
 returns : tie.Need-returns
-returns c = let a = c .before .before .before .args in short-room (now (a .src)) (now (a .room)) (omega arith)
+unfolding fedOnce
+returns c =
+    let w = c .before .before .before .work-room in
+    let r = c .refusal in
+    sym (ap outcome (room-short (now (c .before .before .before .before .before .before .args .src)) roomOnceFed _ next (w .result) (w .ensures) _ (c .before .enum-told2 .given .1) (r .result) (r .ensures)))
 
 read-requires : tie.Need-read-requires
 read-requires c κs = search needs
@@ -36,65 +68,83 @@ read-requires c κs = search needs
 enum-known-graph : tie.Need-enum-known-graph
 enum-known-graph c = search needs
 
-enum-told : tie.Need-enum-told
-enum-told c = search needs
+enum-told-3 : tie.Need-enum-told-3
+enum-told-3 c = search needs
 
-refusal-requires : tie.Need-refusal-requires
-refusal-requires c κs = search needs
+refusal-requires-2 : tie.Need-refusal-requires-2
+refusal-requires-2 c κs = search needs
 
 returns-2 : tie.Need-returns-2
+unfolding fedOnce
 returns-2 c =
-    let a = c .before .before .before .before .before .before .before .args in
-    let r = c .before .before .before .read in
-    let x = c .before .enum-told .given in
-    ap Refused (c .refusal .ensures ∙ ap readRefusal (x .1))
-    ∙ not-read (now (a .src)) (now (a .room)) (omega arith) (x .0 .0 .no) (unread (now (a .src)) (r .result) (r .ensures) (x .0 .0) (x .1))
+    let w = c .before .before .before .before .before .before .work-room in
+    let g = c .before .before .before .read in
+    let r = c .refusal2 in
+    sym (ap outcome (graph-unread (now (c .before .before .before .before .before .before .before .before .before .args .src)) roomOnceFed _ next (w .result) (w .ensures) _ (c .before .before .before .before .enum-told .given .1)
+    (g .result) (g .ensures) _ (c .before .enum-told3 .given .1) (r .result) (r .ensures)))
+
+unpaired-requires : tie.Need-unpaired-requires
+unpaired-requires c κs = search needs
+
+enum-told-4 : tie.Need-enum-told-4
+enum-told-4 c = search needs
+
+enum-told-5 : tie.Need-enum-told-5
+enum-told-5 c = search needs
+
+refusal-requires-3 : tie.Need-refusal-requires-3
+refusal-requires-3 c κs = search needs
 
 returns-3 : tie.Need-returns-3
+unfolding fedOnce
 returns-3 c =
-    let a = c .before .before .before .before .before .before .before .before .before .args in
-    pending (now (a .src)) (now (a .room)) (omega arith) (c .before .before .before .graph .given .0 .0) (form (c .before .before)) (c .if2 .taken)
-
-clear-requires : tie.Need-clear-requires
-clear-requires c κs =
-    let l = stored-limits (form (c .before .before .before)) in
-    omega (arith, l .nodes)
+    let w = c .before .before .before .before .before .before .before .before .before .before .work-room in
+    let p = c .before .before .before .unpaired in
+    let r = c .refusal3 in
+    sym (ap outcome (graph-paired (now (c .before .before .before .before .before .before .before .before .before .before .before .before .before .args .src)) roomOnceFed _ next (w .result) (w .ensures) _ (c .before .before .before .before .before .before .before .before .enum-told .given .1) (form (c .before .before .before .before))
+    (p .result) (p .ensures) _ (c .before .enum-told5 .given .1) (r .result) (r .ensures)))
 
 feed-edges-requires : tie.Need-feed-edges-requires
 feed-edges-requires c κs =
-    let s = form (c .before .before .before .before .before .before .before) in
-    let l = stored-limits s in
-    (whole-of s .1, omega (arith, l .nodes, c .before .before .before .clear .kept .0))
+    let a = c .before .before .before .before .before .before .before .before .before .before .before .before .before .args in
+    let w = c .before .before .before .before .before .before .before .before .before .before .work-room in
+    let s = form (c .before .before .before .before) in
+    let l = room-enough (now (a .src)) roomOnceFed (length (now (a .room))) next (w .result) (w .ensures) _ (c .before .before .before .before .before .before .before .before .enum-told .given .1) in
+    (s, omega (arith, ap (λ (y : Sizes). y .nodes) (s .sizes), s .within .counts .nodes, l))
 
 same-length : tie.Need-same-length
 same-length c = search needs
 
 returns-4 : tie.Need-returns-4
-returns-4 c =
-    let k = c .before .before .before .before .before .before .before .before .before .before in
-    let a = k .before .before .before .before .before .before .before .args in
-    let z = k .before .graph .given .0 .0 in
-    let s = form k in
-    let w = whole-of s in
-    let f = c .before .before .feed-edges in
-    let cl = c .before .before .before .before .before .before .clear in
-    let l = stored-limits s in
-    let fed : Fed (cl .last .0) (length (graphOf (now (a .src)) .labels)) [] [] =
-    subst (λ (n : ℕ). Fed (cl .last .0) n [] []) (sym (node-count (w .1))) (fed-cleared (now (a .room)) (cl .last .0) (z .nodes) (omega (arith, l .nodes)) (cl .ensures)) in
-    decided (now (a .src)) (now (a .room)) (omega arith) z s (c .before .before .before .before .before .before .before .before .if2 .left) (f .result) (f .ensures fed ∙ ap onceFed (w .0))
+returns-4 c = sym (decided (c .before .before .before) ∙ ap (λ (yes : Bool). Done (cond yes 1 0) 0) (c .if1 .taken))
+
+same-length-2 : tie.Need-same-length-2
+same-length-2 c = search needs
+
+returns-5 : tie.Need-returns-5
+returns-5 c = sym (decided (c .before .before .before) ∙ ap (λ (yes : Bool). Done (cond yes 1 0) 0) (c .if1 .left))
 
 pub once-fed-spec : {M : Type 1} → statement M
 once-fed-spec =
     tie.close
     (tie.spec
+    work-room-requires
+    enum-told
+    enum-told-2
+    refusal-requires
     returns
     read-requires
     enum-known-graph
-    enum-told
-    refusal-requires
+    enum-told-3
+    refusal-requires-2
     returns-2
+    unpaired-requires
+    enum-told-4
+    enum-told-5
+    refusal-requires-3
     returns-3
-    clear-requires
     feed-edges-requires
     same-length
-    returns-4)
+    returns-4
+    same-length-2
+    returns-5)

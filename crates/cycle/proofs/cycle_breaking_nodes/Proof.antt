@@ -1,29 +1,69 @@
 -- `cycle::cycle_breaking_nodes` meets its contract.
 -- Assumes nothing.
-use mathlib.Core.Path.{ap, _∙_}
+use mathlib.Core.Path.{_≡_, ap, _∙_}
+use Prim.Native.Nat.{ℕ, _*_, _≤_}
+use native.Mathlib.Nat.{mul-le-mul-right}
 use native.Mathlib.Omega.{arith}
 use lib.ListN.{length}
 use denote.Ref.{now}
 use borrow.Author.Needs.{needs}
-use Rattle.cycle.specs.declared.Cutting.the-variants as cutting
-use Rattle.form.specs.Form.{readRefusal}
+use Rattle.choice.specs.Calls.{roomCycleBreakingNodes, cycleBroken, cycleBreakingNodesCall}
+use Rattle.form.specs.Stored.{storedOf, graphOf, Stored}
 use Rattle.le.specs.Le.{words}
-use Rattle.form.proofs.Whole.{Stored, stored-graph, stored-limits, unread}
+use Rattle.form.proofs.Pairless.{room-short, room-enough, graph-unread, graph-paired, graph-pairless}
+use Rattle.form.proofs.Answers.{gives-refused}
+use Rattle.form.proofs.Stored.{stored, stored-rows}
+use Rattle.incidence.proofs.Listing.{few-edges}
 use Rattle.le.proofs.Numbers.{below-each}
-use Rattle.cycle.proofs.Begin.{drawn}
-use Rattle.cycle.proofs.Calls.{cut-room, cut-unread, cut-8, cut-10, cut-0, flagged-count, ids-few}
+use Rattle.cycle.proofs.Calls.{listing, flagged-count, ids-few, listing-10, listing-0}
 use Rattle.cycle.proofs.cycle_breaking_nodes.Statement.{statement}
 use Rattle.cycle.proofs.cycle_breaking_nodes.Tie as tie
 
 -- the form that was read
-form : (c : tie.After-known-told) → Stored (now (c .before .before .before .before .before .before .before .before .args .src)) (c .before .graph .given .0 .0)
+form : (c : tie.After-known-told) → Stored (now (c .before .before .before .before .before .before .before .before .before .before .args .src)) (c .before .graph .given .0 .0)
 form c =
-    let b = now (c .before .before .before .before .before .before .before .before .args .src) in
-    stored-graph b (below-each 256 b (λ i l. omega (arith, c .before .before .before .before .before .before .before .shared-slice-known .given i)))
-    (c .before .before .before .read .result) (c .before .before .before .read .ensures) (c .before .graph .given .0 .0) (c .before .graph .given .1)
+    let b = now (c .before .before .before .before .before .before .before .before .before .before .args .src) in
+    let r = c .before .before .before .read in
+    let g = c .before .graph .given in
+    stored b (r .result) (r .ensures) (below-each 256 b (λ i l. omega (arith, c .before .before .before .before .before .before .before .before .before .shared-slice-known .given i))) (g .0 .0) (g .1)
+
+-- no refusal was met
+whole : (c : tie.After-enum-told4) → let a = c .before .before .before .before .before .before .before .before .before .before .before .before .before .args in let b = now (a .src) in
+    cycleBreakingNodesCall b (length (now (a .list))) (length (now (a .room))) ≡ listing (length (now (a .list))) (storedOf b) (graphOf b)
+unfolding cycleBroken
+whole c =
+    let a = c .before .before .before .before .before .before .before .before .before .before .before .before .before .args in
+    let w = c .before .before .before .before .before .before .before .before .before .work-room in
+    let p = c .before .before .unpaired in
+    graph-pairless (now (a .src)) roomCycleBreakingNodes _ (listing (length (now (a .list)))) (w .result) (w .ensures) _ (c .before .before .before .before .before .before .before .enum-told .given .1)
+    (form (c .before .before .before)) (p .result) (p .ensures) _ (c .enum-told4 .given .1)
+
+-- the room is long enough
+long : (c : tie.After-enum-told4) → roomCycleBreakingNodes ≤ length (now (c .before .before .before .before .before .before .before .before .before .before .before .before .before .args .room))
+long c =
+    let w = c .before .before .before .before .before .before .before .before .before .work-room in
+    room-enough (now (c .before .before .before .before .before .before .before .before .before .before .before .before .before .args .src)) roomCycleBreakingNodes _ (listing 0) (w .result) (w .ensures) _ (c .before .before .before .before .before .before .before .enum-told .given .1)
+
+work-room-requires : tie.Need-work-room-requires
+work-room-requires c κs = search needs
+
+enum-told : tie.Need-enum-told
+enum-told c = search needs
+
+enum-told-2 : tie.Need-enum-told-2
+enum-told-2 c = search needs
+
+refusal-requires : tie.Need-refusal-requires
+refusal-requires c κs = search needs
 
 returns : tie.Need-returns
-returns c = cut-room (now (c .before .before .before .before .args .src)) (now (c .before .before .before .before .args .list)) (length (now (c .before .before .before .before .args .room))) (omega arith)
+unfolding cycleBroken
+returns c =
+    let a = c .before .before .before .before .before .before .before .args in
+    let w = c .before .before .before .work-room in
+    let r = c .refusal in
+    gives-refused (r .result) (now (a .list))
+    (room-short (now (a .src)) roomCycleBreakingNodes _ (listing (length (now (a .list)))) (w .result) (w .ensures) _ (c .before .enum-told2 .given .1) _ (r .ensures))
 
 read-requires : tie.Need-read-requires
 read-requires c κs = search needs
@@ -31,37 +71,73 @@ read-requires c κs = search needs
 enum-known-graph : tie.Need-enum-known-graph
 enum-known-graph c = search needs
 
-enum-told : tie.Need-enum-told
-enum-told c = search needs
+enum-told-3 : tie.Need-enum-told-3
+enum-told-3 c = search needs
 
-refusal-requires : tie.Need-refusal-requires
-refusal-requires c κs = search needs
+refusal-requires-2 : tie.Need-refusal-requires-2
+refusal-requires-2 c κs = search needs
 
 returns-2 : tie.Need-returns-2
-returns-2 c = let a = c .before .before .before .before .before .before .before .before .args in
-    let r = c .before .before .before .read in
-    let x = c .before .enum-told .given in
-    let g = cut-unread (now (a .src)) (now (a .list)) (length (now (a .room))) (omega arith) (x .0 .0 .no) (unread (now (a .src)) (r .result) (r .ensures) (x .0 .0) (x .1)) in
-    (ap cutting.Refused (c .refusal .ensures ∙ ap readRefusal (x .1)) ∙ g .0, g .1)
+unfolding cycleBroken
+returns-2 c =
+    let a = c .before .before .before .before .before .before .before .before .before .before .args in
+    let w = c .before .before .before .before .before .before .work-room in
+    let g = c .before .before .before .read in
+    let r = c .refusal2 in
+    gives-refused (r .result) (now (a .list))
+    (graph-unread (now (a .src)) roomCycleBreakingNodes _ (listing (length (now (a .list)))) (w .result) (w .ensures) _ (c .before .before .before .before .enum-told .given .1)
+    (g .result) (g .ensures) _ (c .before .enum-told3 .given .1) _ (r .ensures))
+
+unpaired-requires : tie.Need-unpaired-requires
+unpaired-requires c κs = search needs
+
+enum-told-4 : tie.Need-enum-told-4
+enum-told-4 c = search needs
+
+enum-told-5 : tie.Need-enum-told-5
+enum-told-5 c = search needs
+
+refusal-requires-3 : tie.Need-refusal-requires-3
+refusal-requires-3 c κs = search needs
 
 returns-3 : tie.Need-returns-3
-returns-3 c = let a = c .before .before .before .before .before .before .before .before .before .before .args in
-    cut-8 (now (a .src)) (now (a .list)) (length (now (a .room))) (omega arith) (c .before .before .before .graph .given .0 .0) (form (c .before .before)) (c .if2 .taken)
+unfolding cycleBroken
+returns-3 c =
+    let a = c .before .before .before .before .before .before .before .before .before .before .before .before .before .before .args in
+    let w = c .before .before .before .before .before .before .before .before .before .before .work-room in
+    let p = c .before .before .before .unpaired in
+    let r = c .refusal3 in
+    gives-refused (r .result) (now (a .list))
+    (graph-paired (now (a .src)) roomCycleBreakingNodes _ (listing (length (now (a .list)))) (w .result) (w .ensures) _ (c .before .before .before .before .before .before .before .before .enum-told .given .1) (form (c .before .before .before .before))
+    (p .result) (p .ensures) _ (c .before .enum-told5 .given .1) _ (r .ensures))
 
 flag-nodes-requires : tie.Need-flag-nodes-requires
-flag-nodes-requires c κs = (omega arith, drawn (form (c .before .before .before)))
+flag-nodes-requires c κs = (long (c .before), form (c .before .before .before .before))
 
-mul-if3 : tie.Need-mul-if3
-mul-if3 c = omega (arith, ids-few (now (c .before .before .before .before .before .before .before .before .before .before .before .before .before .before .before .args .src)) (now (c .before .before .before .before .before .before .before .before .before .before .before .before .before .before .before .args .list)) (length (now (c .before .before .before .before .before .before .before .before .before .before .before .before .before .before .before .args .room))) (omega arith) (c .before .before .before .before .before .before .before .before .graph .given .0 .0) (form (c .before .before .before .before .before .before .before)) (c .before .before .before .before .before .if2 .left) (words (c .before .before .before .flag-nodes .last .0)) (c .before .before .before .flag-nodes .result .ids) (c .before .before .before .flag-nodes .result .free) (c .before .before .before .flag-nodes .ensures))
+mul-if1 : tie.Need-mul-if1
+mul-if1 c =
+    let s = form (c .before .before .before .before .before .before .before .before .before) in
+    let f = c .before .before .before .before .flag-nodes in
+    let few = ids-few _ _ s (words (f .last .0)) (f .result .ids) (f .result .free) (f .ensures) in
+    omega (arith, few, stored-rows s .low .narrow, mul-le-mul-right (c .before .before .before .before .before .before .before .before .before .before .graph .given .0 .0 .width) few)
 
 same-length : tie.Need-same-length
 same-length c = search needs
 
 returns-4 : tie.Need-returns-4
-returns-4 c = cut-10 (now (c .before .before .before .before .before .before .before .before .before .before .before .before .before .before .before .before .args .src)) (now (c .before .before .before .before .before .before .before .before .before .before .before .before .before .before .before .before .args .list)) (length (now (c .before .before .before .before .before .before .before .before .before .before .before .before .before .before .before .before .args .room))) (omega arith) (c .before .before .before .before .before .before .before .before .before .graph .given .0 .0) (form (c .before .before .before .before .before .before .before .before)) (c .before .before .before .before .before .before .if2 .left) (words (c .before .before .before .before .flag-nodes .last .0)) (c .before .before .before .before .flag-nodes .result .ids) (c .before .before .before .before .flag-nodes .result .free) (c .before .before .before .before .flag-nodes .ensures) (omega arith)
+returns-4 c =
+    let f = c .before .before .before .before .before .flag-nodes in
+    gives-refused (record { no = 10 }) (now (c .before .before .before .before .before .before .before .before .before .before .before .before .before .before .before .before .before .before .before .before .args .list))
+    (whole (c .before .before .before .before .before .before .before) ∙ listing-10 _ _ (form (c .before .before .before .before .before .before .before .before .before .before)) (words (f .last .0)) (f .result .ids) (f .result .free) (f .ensures) _ (c .if1 .taken))
 
 put-chosen-requires : tie.Need-put-chosen-requires
-put-chosen-requires c κs = (stored-limits (form (c .before .before .before .before .before .before .before .before .before .before)) .nodes, omega (arith, c .before .before .before .before .before .before .flag-nodes .kept .0), omega (arith, flagged-count (now (c .before .before .before .before .before .before .before .before .before .before .before .before .before .before .before .before .before .before .args .src)) (now (c .before .before .before .before .before .before .before .before .before .before .before .before .before .before .before .before .before .before .args .list)) (length (now (c .before .before .before .before .before .before .before .before .before .before .before .before .before .before .before .before .before .before .args .room))) (omega arith) (c .before .before .before .before .before .before .before .before .before .before .before .graph .given .0 .0) (form (c .before .before .before .before .before .before .before .before .before .before)) (c .before .before .before .before .before .before .before .before .if2 .left) (words (c .before .before .before .before .before .before .flag-nodes .last .0)) (c .before .before .before .before .before .before .flag-nodes .result .ids) (c .before .before .before .before .before .before .flag-nodes .result .free) (c .before .before .before .before .before .before .flag-nodes .ensures)))
+put-chosen-requires c κs =
+    let s = form (c .before .before .before .before .before .before .before .before .before .before .before .before) in
+    let f = c .before .before .before .before .before .before .before .flag-nodes in
+    let l = long (c .before .before .before .before .before .before .before .before .before) in
+    let w = c .before .before .before .before .before .before .before .before .before .before .before .before .before .graph .given .0 .0 .width in
+    let n = ap (λ (k : ℕ). k * w) (flagged-count _ _ s (words (f .last .0)) (f .result .ids) (f .result .free) (f .ensures)) in
+    (few-edges _ _ s .0, omega (arith, l, f .kept .0), record { wide = stored-rows s .low .width; inside = omega (arith, n, c .before .before .if1 .left) })
 
 same-length-2 : tie.Need-same-length-2
 same-length-2 c = search needs
@@ -70,21 +146,32 @@ same-length-3 : tie.Need-same-length-3
 same-length-3 c = search needs
 
 returns-5 : tie.Need-returns-5
-returns-5 c = cut-0 (now (c .before .before .before .before .before .before .before .before .before .before .before .before .before .before .before .before .before .before .before .before .before .args .src)) (now (c .before .before .before .before .before .before .before .before .before .before .before .before .before .before .before .before .before .before .before .before .before .args .list)) (length (now (c .before .before .before .before .before .before .before .before .before .before .before .before .before .before .before .before .before .before .before .before .before .args .room))) (omega arith) (c .before .before .before .before .before .before .before .before .before .before .before .before .before .before .graph .given .0 .0) (form (c .before .before .before .before .before .before .before .before .before .before .before .before .before)) (c .before .before .before .before .before .before .before .before .before .before .before .if2 .left) (words (c .before .before .before .before .before .before .before .before .before .flag-nodes .last .0)) (c .before .before .before .before .before .before .before .before .before .flag-nodes .result .ids) (c .before .before .before .before .before .before .before .before .before .flag-nodes .result .free) (c .before .before .before .before .before .before .before .before .before .flag-nodes .ensures) (omega arith) (c .before .before .put-chosen .last .0) (c .before .before .put-chosen .ensures)
+returns-5 c =
+    let f = c .before .before .before .before .before .before .before .before .before .before .flag-nodes in
+    let p = c .before .before .put-chosen in
+    listing-0 _ _ (form (c .before .before .before .before .before .before .before .before .before .before .before .before .before .before .before)) (words (f .last .0)) (f .result .ids) (f .result .free) (f .ensures) _ (now (c .before .before .before .before .before .before .before .before .before .before .before .before .before .before .before .before .before .before .before .before .before .before .before .before .before .args .list)) (p .last .0) (whole (c .before .before .before .before .before .before .before .before .before .before .before .before)) (omega arith) (p .ensures)
 
 pub cycle-breaking-nodes-spec : {M : Type 1} → statement M
 cycle-breaking-nodes-spec =
     tie.close
     (tie.spec
+    work-room-requires
+    enum-told
+    enum-told-2
+    refusal-requires
     returns
     read-requires
     enum-known-graph
-    enum-told
-    refusal-requires
+    enum-told-3
+    refusal-requires-2
     returns-2
+    unpaired-requires
+    enum-told-4
+    enum-told-5
+    refusal-requires-3
     returns-3
     flag-nodes-requires
-    mul-if3
+    mul-if1
     same-length
     returns-4
     put-chosen-requires

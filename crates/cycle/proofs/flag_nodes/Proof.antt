@@ -10,25 +10,29 @@ use Rattle.cycle.proofs.flag_nodes.Statement.{statement}
 use Rattle.cycle.proofs.flag_nodes.Tie as tie
 
 start-requires : tie.Need-start-requires
-start-requires c κs = search needs
+start-requires c κs = ((few-edges _ _ (c .before .before .before .pre .1) .0, record { tables = omega arith; queue = λ z. omega arith }), c .before .before .before .pre .1)
 
 put-same-requires : tie.Need-put-same-requires
 put-same-requires c κs = search needs
 
-add-t13 : tie.Need-add-t13
-add-t13 c = search needs
+add-t12 : tie.Need-add-t12
+add-t12 c = search needs
 
 greedy-feedback-nodes-requires : tie.Need-greedy-feedback-nodes-requires
-greedy-feedback-nodes-requires c κs = let f = few-edges (c .before .before .before .before .before .before .before .before .before .before .before .args .src .now) (c .before .before .before .before .before .before .before .before .before .before .before .args .nodes) (c .before .before .before .before .before .before .before .before .before .before .before .args .edges) (c .before .before .before .before .before .before .before .before .before .before .before .pre .1) in
-    let e = c .before .before .before .put-same .kept .0 ∙ c .before .before .before .before .before .before .before .start .kept .0 in
-    ((f .0, omega arith, record { tables = omega arith; queue = λ z. omega arith }), ready _ _ _ (c .before .before .before .before .before .before .before .before .before .before .before .pre .1) _ _ _ _ (c .before .before .before .before .before .before .before .start .ensures) (words (c .before .before .before .put-same .last .0)) (c .before .before .before .put-same .ensures))
+greedy-feedback-nodes-requires c κs =
+    let f = few-edges _ _ (c .before .before .before .before .before .before .before .before .before .before .before .before .pre .1) in
+    let w = c .before .before .before .before .put-same in
+    let e = w .kept .0 ∙ c .before .before .before .before .before .before .before .before .start .kept .0 in
+    ((f .0, omega arith, record { tables = omega arith; queue = λ z. omega arith }), ready _ _ (c .before .before .before .before .before .before .before .before .before .before .before .before .pre .1) _ _ _ _ (c .before .before .before .before .before .before .before .before .start .ensures) (words (w .last .0)) (w .ensures))
 
 same-length : tie.Need-same-length
 same-length c = search needs
 
 returns : tie.Need-returns
-returns c = let g = c .before .before .greedy-feedback-nodes in
-    chosen-in _ _ _ (c .before .before .before .before .before .before .before .before .before .before .before .before .before .before .pre .1) _ _ _ _ (c .before .before .before .before .before .before .before .before .before .before .start .ensures) (words (c .before .before .before .before .before .before .put-same .last .0)) (c .before .before .before .before .before .before .put-same .ensures) (words (g .last .0)) (g .result .ids) (g .result .free) (g .ensures)
+returns c =
+    let w = c .before .before .before .before .before .before .before .put-same in
+    let g = c .before .before .greedy-feedback-nodes in
+    chosen-in _ _ (c .before .before .before .before .before .before .before .before .before .before .before .before .before .before .before .pre .1) _ _ _ _ (c .before .before .before .before .before .before .before .before .before .before .before .start .ensures) (words (w .last .0)) (w .ensures) (words (g .last .0)) (g .result .ids) (g .result .free) (g .ensures)
 
 pub flag-nodes-spec : {M : Type 1} → statement M
 flag-nodes-spec =
@@ -36,7 +40,7 @@ flag-nodes-spec =
     (tie.spec
     start-requires
     put-same-requires
-    add-t13
+    add-t12
     greedy-feedback-nodes-requires
     same-length
     returns)

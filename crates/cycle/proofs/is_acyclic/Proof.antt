@@ -22,10 +22,11 @@ same-length : tie.Need-same-length
 same-length c = search needs
 
 returns : tie.Need-returns
-returns c = let a = c .before .before .before .before .before .before .before .before .before .before .before .args in
-    let s = c .before .before .before .before .before .before .before .start in
-    let p = c .before .before .before .peel in
-    no-loop-is (a .src .now) (a .nodes) (a .edges) (c .before .before .before .before .before .before .before .before .before .before .before .pre .1) (words (s .last .0)) (words (p .last .0)) (s .result .ports) 0 (s .result .waiting) (s .result .candidates) (p .result .candidates) (p .result .removed) (s .ensures) (p .ensures)
+returns c =
+    let s = c .before .before .before .before .before .before .before .before .before .start in
+    let p = c .before .before .before .before .peel in
+    no-loop-is _ _ (c .before .before .before .before .before .before .before .before .before .before .before .before .before .pre .1) (words (s .last .0)) (words (p .last .0)) (s .result .ports) 0 (s .result .waiting) (s .result .candidates) (p .result .candidates) (p .result .removed)
+    (s .ensures) (p .ensures)
 
 pub is-acyclic-spec : {M : Type 1} → statement M
 is-acyclic-spec =

@@ -1,28 +1,65 @@
 -- `cycle::no_loop` meets its contract.
 -- Assumes nothing.
-use mathlib.Core.Path.{ap, _∙_}
+use mathlib.Core.Bool.{Bool, cond}
+use mathlib.Core.Path.{_≡_, sym, ap, _∙_}
 use native.Mathlib.Omega.{arith}
 use lib.ListN.{length}
 use denote.Ref.{now}
 use borrow.Author.Needs.{needs}
-use Rattle.form.specs.declared.Checked.the-variants as check
-use Rattle.form.specs.Form.{readRefusal}
-use Rattle.form.proofs.Whole.{Stored, stored-graph, unread}
+use Rattle.choice.specs.Calls.{roomNoLoop, loopFree, noLoopCall}
+use Rattle.choice.specs.Drawing.{noLoop}
+use Rattle.form.specs.Form.{outcome}
+use Rattle.form.specs.Stored.{Stored}
+use Rattle.form.specs.declared.Outcome.the-variants.{Done}
+use Rattle.graph.specs.Answer.{Answer, Result, answered, saying}
+use Rattle.graph.specs.Graph.{Graph}
+use Rattle.graph.specs.Versions as versions
+use Rattle.form.proofs.Stored.{stored}
 use Rattle.le.proofs.Numbers.{below-each}
-use Rattle.cycle.proofs.Begin.{drawn}
-use Rattle.cycle.proofs.Calls.{check-10, check-unread, check-8, check-0}
+use Rattle.form.proofs.Pairless.{room-short, room-enough, graph-unread, graph-paired, graph-pairless}
 use Rattle.cycle.proofs.no_loop.Statement.{statement}
 use Rattle.cycle.proofs.no_loop.Tie as tie
 
+-- the answer
+abbrev next : versions.Stored → Graph → Answer Result
+next s g = answered (saying (noLoop g))
+
 -- the form that was read
-form : (c : tie.After-known-told) → Stored (now (c .before .before .before .before .before .before .before .args .src)) (c .before .graph .given .0 .0)
+form : (c : tie.After-known-told) → Stored (now (c .before .before .before .before .before .before .before .before .before .args .src)) (c .before .graph .given .0 .0)
 form c =
-    let b = now (c .before .before .before .before .before .before .before .args .src) in
-    stored-graph b (below-each 256 b (λ i l. omega (arith, c .before .before .before .before .before .before .shared-slice-known .given i)))
-    (c .before .before .before .read .result) (c .before .before .before .read .ensures) (c .before .graph .given .0 .0) (c .before .graph .given .1)
+    let b = now (c .before .before .before .before .before .before .before .before .before .args .src) in
+    let r = c .before .before .before .read in
+    let g = c .before .graph .given in
+    stored b (r .result) (r .ensures) (below-each 256 b (λ i l. omega (arith, c .before .before .before .before .before .before .before .before .shared-slice-known .given i))) (g .0 .0) (g .1)
+
+-- what was found
+decided : (c : tie.After-is-acyclic) → let a = c .before .before .before .before .before .before .before .before .before .before .before .before .before .before .args in outcome (noLoopCall (now (a .src)) (length (now (a .room)))) ≡ Done (cond (c .is-acyclic .result) 1 0) 0
+unfolding loopFree
+decided c =
+    let w = c .before .before .before .before .before .before .before .before .before .before .before .work-room in
+    let p = c .before .before .before .before .unpaired in
+    ap outcome (graph-pairless (now (c .before .before .before .before .before .before .before .before .before .before .before .before .before .before .args .src)) roomNoLoop _ next (w .result) (w .ensures) _ (c .before .before .before .before .before .before .before .before .before .enum-told .given .1) (form (c .before .before .before .before .before))
+    (p .result) (p .ensures) _ (c .before .before .enum-told4 .given .1))
+    ∙ ap (λ (yes : Bool). Done (cond yes 1 0) 0) (sym (c .is-acyclic .ensures))
+
+work-room-requires : tie.Need-work-room-requires
+work-room-requires c κs = search needs
+
+enum-told : tie.Need-enum-told
+enum-told c = search needs
+
+enum-told-2 : tie.Need-enum-told-2
+enum-told-2 c = search needs
+
+refusal-requires : tie.Need-refusal-requires
+refusal-requires c κs = search needs
 
 returns : tie.Need-returns
-returns c = check-10 (c .before .before .before .args .src .now) (length (c .before .before .before .args .room .now)) (omega arith)
+unfolding loopFree
+returns c =
+    let w = c .before .before .before .work-room in
+    let r = c .refusal in
+    sym (ap outcome (room-short (now (c .before .before .before .before .before .before .args .src)) roomNoLoop _ next (w .result) (w .ensures) _ (c .before .enum-told2 .given .1) (r .result) (r .ensures)))
 
 read-requires : tie.Need-read-requires
 read-requires c κs = search needs
@@ -30,44 +67,83 @@ read-requires c κs = search needs
 enum-known-graph : tie.Need-enum-known-graph
 enum-known-graph c = search needs
 
-enum-told : tie.Need-enum-told
-enum-told c = search needs
+enum-told-3 : tie.Need-enum-told-3
+enum-told-3 c = search needs
 
-refusal-requires : tie.Need-refusal-requires
-refusal-requires c κs = search needs
+refusal-requires-2 : tie.Need-refusal-requires-2
+refusal-requires-2 c κs = search needs
 
 returns-2 : tie.Need-returns-2
-returns-2 c = let a = c .before .before .before .before .before .before .before .args in
-    let r = c .before .before .before .read in
-    let x = c .before .enum-told .given in
-    ap check.Refused (c .refusal .ensures ∙ ap readRefusal (x .1))
-    ∙ check-unread (a .src .now) (length (a .room .now)) (omega arith) (x .0 .0 .no) (unread (a .src .now) (r .result) (r .ensures) (x .0 .0) (x .1))
+unfolding loopFree
+returns-2 c =
+    let w = c .before .before .before .before .before .before .work-room in
+    let g = c .before .before .before .read in
+    let r = c .refusal2 in
+    sym (ap outcome (graph-unread (now (c .before .before .before .before .before .before .before .before .before .args .src)) roomNoLoop _ next (w .result) (w .ensures) _ (c .before .before .before .before .enum-told .given .1)
+    (g .result) (g .ensures) _ (c .before .enum-told3 .given .1) (r .result) (r .ensures)))
+
+unpaired-requires : tie.Need-unpaired-requires
+unpaired-requires c κs = search needs
+
+enum-told-4 : tie.Need-enum-told-4
+enum-told-4 c = search needs
+
+enum-told-5 : tie.Need-enum-told-5
+enum-told-5 c = search needs
+
+refusal-requires-3 : tie.Need-refusal-requires-3
+refusal-requires-3 c κs = search needs
 
 returns-3 : tie.Need-returns-3
-returns-3 c = let a = c .before .before .before .before .before .before .before .before .before .args in
-    check-8 (a .src .now) (length (a .room .now)) (omega arith) (c .before .before .before .graph .given .0 .0) (form (c .before .before)) (c .if2 .taken)
+unfolding loopFree
+returns-3 c =
+    let w = c .before .before .before .before .before .before .before .before .before .before .work-room in
+    let p = c .before .before .before .unpaired in
+    let r = c .refusal3 in
+    sym (ap outcome (graph-paired (now (c .before .before .before .before .before .before .before .before .before .before .before .before .before .args .src)) roomNoLoop _ next (w .result) (w .ensures) _ (c .before .before .before .before .before .before .before .before .enum-told .given .1) (form (c .before .before .before .before))
+    (p .result) (p .ensures) _ (c .before .enum-told5 .given .1) (r .result) (r .ensures)))
 
 is-acyclic-requires : tie.Need-is-acyclic-requires
-is-acyclic-requires c κs = (omega arith, drawn (form (c .before .before .before)))
+is-acyclic-requires c κs =
+    let a = c .before .before .before .before .before .before .before .before .before .before .before .before .before .args in
+    let w = c .before .before .before .before .before .before .before .before .before .before .work-room in
+    let s = form (c .before .before .before .before) in
+    let l = room-enough (now (a .src)) roomNoLoop (length (now (a .room))) next (w .result) (w .ensures) _ (c .before .before .before .before .before .before .before .before .enum-told .given .1) in
+    (l, s)
 
 same-length : tie.Need-same-length
 same-length c = search needs
 
 returns-4 : tie.Need-returns-4
-returns-4 c = let a = c .before .before .before .before .before .before .before .before .before .before .before .before .before .args in
-    check-0 (a .src .now) (length (a .room .now)) (omega arith) (c .before .before .before .before .before .before .before .graph .given .0 .0) (form (c .before .before .before .before .before .before)) (c .before .before .before .before .if2 .left) (c .before .before .is-acyclic .result) (c .before .before .is-acyclic .ensures)
+returns-4 c = sym (decided (c .before .before .before) ∙ ap (λ (yes : Bool). Done (cond yes 1 0) 0) (c .if1 .taken))
+
+same-length-2 : tie.Need-same-length-2
+same-length-2 c = search needs
+
+returns-5 : tie.Need-returns-5
+returns-5 c = sym (decided (c .before .before .before) ∙ ap (λ (yes : Bool). Done (cond yes 1 0) 0) (c .if1 .left))
 
 pub no-loop-spec : {M : Type 1} → statement M
 no-loop-spec =
     tie.close
     (tie.spec
+    work-room-requires
+    enum-told
+    enum-told-2
+    refusal-requires
     returns
     read-requires
     enum-known-graph
-    enum-told
-    refusal-requires
+    enum-told-3
+    refusal-requires-2
     returns-2
+    unpaired-requires
+    enum-told-4
+    enum-told-5
+    refusal-requires-3
     returns-3
     is-acyclic-requires
     same-length
-    returns-4)
+    returns-4
+    same-length-2
+    returns-5)

@@ -1,15 +1,20 @@
 -- `cycle::put_flagged` meets its contract.
 -- Assumes nothing.
-use mathlib.Core.List.{append-nil}
-use mathlib.Core.Path.{refl, sym, ap, _∙_}
+use mathlib.Core.Path.{_≡_, sym, ap, _∙_}
+use mathlib.Core.List.{[], _∷_}
 use native.Mathlib.Omega.{arith}
 use lib.ListN.{length}
-use lib.Seq.{sets}
 use borrow.Author.Needs.{needs}
-use Rattle.le.specs.Le.{words, bytes}
+use Rattle.cycle.specs.Choosing.{shown}
+use Rattle.le.specs.Le.{words}
+use Rattle.le.proofs.Rows.{holds-less, holds-index, puts-none}
 use Rattle.cycle.proofs.Flags.{shown-no, shown-yes}
 use Rattle.cycle.proofs.put_flagged.Statement.{statement}
 use Rattle.cycle.proofs.put_flagged.Tie as tie
+
+-- v is shown
+flagged : (c : tie.Else1) → shown (words (c .before .before .before .before .args .room .now)) (c .before .before .before .before .args .v) ≡ c .before .before .before .before .args .v ∷ []
+flagged c = shown-yes (words (c .before .before .before .before .args .room .now)) (c .before .before .before .before .args .v) (λ z. c .if1 .left (c .before .word .ensures ∙ z))
 
 add-word : tie.Need-add-word
 add-word c = search needs
@@ -18,38 +23,23 @@ word-requires : tie.Need-word-requires
 word-requires c κs = search needs
 
 returns : tie.Need-returns
-returns c = let a = c .before .before .before .before .args in
-    let e = shown-no (words (a .room .now)) (a .v) (sym (c .before .word .ensures) ∙ c .if1 .taken) in
-    rw e (omega arith, refl)
+returns c =
+    let a = c .before .before .before .before .args in
+    rw (shown-no (words (a .room .now)) (a .v) (sym (c .before .word .ensures) ∙ c .if1 .taken)) (omega arith, sym (puts-none (a .list .now) (a .r) (a .k)))
 
-cast-put2 : tie.Need-cast-put2
-cast-put2 c = search needs
-
-put2-requires : tie.Need-put2-requires
-put2-requires c κs = let a = c .before .before .before .before .before .args in
-    let e = shown-yes (words (a .room .now)) (a .v) (λ z. c .before .if1 .left (c .before .before .word .ensures ∙ z)) in
-    omega (arith, ap length e)
+put-number-requires : tie.Need-put-number-requires
+put-number-requires c κs = (holds-less (c .before .before .before .before .before .pre .2) _ (omega (arith, ap length (flagged (c .before)))), omega arith)
 
 add-result : tie.Need-add-result
-add-result c = search needs
+add-result c = omega (arith, ap length (flagged (c .before .before .before .before)), holds-index (c .before .before .before .before .before .before .before .before .pre .2))
 
 same-length : tie.Need-same-length
 same-length c = search needs
 
 returns-2 : tie.Need-returns-2
-returns-2 c = let a = c .before .before .before .before .before .before .before .before .args in
-    let e = shown-yes (words (a .room .now)) (a .v) (λ z. c .before .before .before .before .if1 .left (c .before .before .before .before .before .word .ensures ∙ z)) in
-    rw e (omega arith, c .before .before .put2 .ensures ∙ ap (sets (a .list .now) (a .at)) (sym (append-nil (bytes 2 (a .v)))))
+returns-2 c = rw (flagged (c .before .before .before .before)) (omega arith, c .before .before .put-number .ensures)
 
 pub put-flagged-spec : {M : Type 1} → statement M
 put-flagged-spec =
     tie.close
-    (tie.spec
-    add-word
-    word-requires
-    returns
-    cast-put2
-    put2-requires
-    add-result
-    same-length
-    returns-2)
+    (tie.spec add-word word-requires returns put-number-requires add-result same-length returns-2)

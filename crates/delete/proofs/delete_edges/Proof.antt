@@ -1,64 +1,100 @@
 -- `delete::delete_edges` meets its contract.
 -- Assumes nothing.
-use mathlib.Core.Path.{_≡_, sym, ap, _∙_, subst}
-use Prim.Native.Nat.{ℕ, _≤_}
-use native.Mathlib.Omega.{arith}
+use mathlib.Core.Path.{_≡_, refl, sym, ap, _∙_}
+use Prim.Native.Nat.{_≤_}
 use lib.ListN.{length}
 use denote.Ref.{now}
-use borrow.Author.Needs.{needs}
-use Rattle.delete.specs.Marks.{unmarkedEdges}
-use Rattle.form.specs.Form.{sizesOf, readRefusal, listRefusal, fitRefusal}
-use Rattle.form.specs.declared.Written.the-variants.{Refused, Done}
-use Rattle.graph.specs.Answer.{answered, lay}
-use Rattle.graph.specs.Calls.{inWorkRoom, onGraph, idList, deleteEdgesStep}
+use Rattle.delete.specs.Marks.{mapOf, unmarkedEdges}
+use Rattle.form.specs.Form.{countsOf, refusalIn, refusalRead, sizesOf}
+use Rattle.form.specs.Stored.{graphOf, formatOf, Stored}
+use Rattle.form.specs.declared.Sizes.{Sizes}
+use Rattle.graph.specs.Answer.{Answer, answered, Result}
+use Rattle.graph.specs.Calls.{Next, idList, inWorkRoom, onGraph, deleteEdgesStep, roomDeleteEdges}
 use Rattle.graph.specs.Delete.{deleteEdges}
-use Rattle.graph.specs.Form.{encode}
-use Rattle.graph.specs.Graph.{Graph, form1}
-use Rattle.graph.specs.Read as graph
-use Rattle.le.specs.Le.{Below, numbers}
-use Rattle.form.proofs.Calls.{gives-refused, gives-done, fit-refused, Fits, fit-bytes}
-use Rattle.form.proofs.Whole.{unread}
+use Rattle.graph.specs.Form.{labelRow, body}
+use Rattle.graph.specs.Graph.{Graph, Format}
+use Rattle.graph.specs.Versions.{fitting}
+use Rattle.le.specs.Rows.{span}
+use Rattle.write.specs.Write.{fitted, drawn}
+use Rattle.form.proofs.Answers.{gives-refused, list-refused}
+use Rattle.form.proofs.Stored.{unread, stored, stored-rows}
 use Rattle.le.proofs.Numbers.{below-each}
-use Rattle.delete.proofs.EdgesGone.{unmarked-deleted, edges-10, edges-unread, edges-7, edges-made}
-use Rattle.delete.proofs.Held.{Found, found, Held, holds, Ids, ids-listed, ids-refused}
+use Rattle.write.proofs.Calls.{gives-by, work-short, work-enough, graph-unread, graph-stopped, graph-refused, graph-fits, graph-done}
+use Rattle.write.proofs.Results.{fits-room}
+use Rattle.delete.proofs.Calls.{room-enough, passes, Listed, listed, edges-stop, edges-next, unmarked-deleted}
+use borrow.Author.Needs.{needs}
+use native.Mathlib.Omega.{arith}
 use Rattle.delete.proofs.delete_edges.Statement.{statement}
 use Rattle.delete.proofs.delete_edges.Tie as tie
 
-bytes : (c : tie.After-shared-slice-known) → Below 256 (now (c .before .args .src))
-bytes c = below-each 256 (now (c .before .args .src)) (λ i l. omega (arith, c .shared-slice-known .given i))
+-- the call's step, and the call in work room enough
+abbrev next : tie.Start → Format → Graph → Answer Next
+next s f = deleteEdgesStep f (now (s .args .ids))
 
--- the form that was read
-form : (c : tie.After-known-told) → Found (now (c .before .before .before .before .before .before .before .before .before .args .src)) (c .before .graph .given .0 .0)
-form c = found (now (c .before .before .before .before .before .before .before .before .before .args .src)) (bytes (c .before .before .before .before .before .before .before .before)) (c .before .graph .given .0 .0) (sym (c .before .before .before .read .ensures) ∙ c .before .graph .given .1)
+abbrev call : tie.Start → Answer Result
+call s = onGraph (now (s .args .src)) (length (now (s .args .out))) (next s)
 
-held : (c : tie.After-known-told) (g : Graph) → graph.read form1 (now (c .before .before .before .before .before .before .before .before .before .args .src)) ≡ answered g → Held (now (c .before .before .before .before .before .before .before .before .before .args .src)) (c .before .graph .given .0 .0) g
-held c = holds (now (c .before .before .before .before .before .before .before .before .before .args .src)) (bytes (c .before .before .before .before .before .before .before .before)) (c .before .graph .given .0 .0) (sym (c .before .before .before .read .ensures) ∙ c .before .graph .given .1)
+enough : (c : tie.After-enum-told) → inWorkRoom roomDeleteEdges (length (now (c .before .before .before .before .before .before .before .args .room))) (call (c .before .before .before .before .before .before .before)) ≡ call (c .before .before .before .before .before .before .before)
+enough c = work-enough roomDeleteEdges _ (call (c .before .before .before .before .before .before .before)) (c .before .before .work-room .result) (c .before .before .work-room .ensures) _ (c .enum-told .given .1)
 
--- the list that was checked
-ids : (c : tie.After-known-told2) → Ids (c .before .before .before .before .before .graph .given .0 .0 .edges) (now (c .before .before .before .before .before .before .before .before .before .before .before .before .before .args .ids)) (c .before .list .given .0 .0)
-ids c = ids-listed (c .before .before .before .before .before .graph .given .0 .0 .edges) (now (c .before .before .before .before .before .before .before .before .before .before .before .before .before .args .ids)) (c .before .before .before .id-list .result) (c .before .before .before .id-list .ensures) (c .before .list .given .0 .0) (c .before .list .given .1)
+-- the form that was read: there is a byte of room for each of its edges
+form : (c : tie.After-known-told) → Stored (now (c .before .before .before .before .before .before .before .before .before .before .before .args .src)) (c .before .graph .given .0 .0)
+form c =
+    let b = now (c .before .before .before .before .before .before .before .before .before .before .before .args .src) in
+    stored b (c .before .before .before .read .result) (c .before .before .before .read .ensures) (below-each 256 b (λ i l. omega (arith, c .before .before .before .before .before .before .before .before .before .before .shared-slice-known .given i))) (c .before .graph .given .0 .0) (c .before .graph .given .1)
 
--- the marks are the list's
-gone : (c : tie.After-mark) (g : Graph) → graph.read form1 (now (c .before .before .before .before .before .before .before .before .before .before .before .before .before .before .before .args .src)) ≡ answered g
-    → unmarkedEdges (c .mark .last .0) g ≡ deleteEdges (numbers 2 (c .before .before .before .list .given .0 .0) (now (c .before .before .before .before .before .before .before .before .before .before .before .before .before .before .before .args .ids))) g
-gone c g p =
-    let h = held (c .before .before .before .before .before .before) g p .edge-count in
-    unmarked-deleted (c .mark .last .0) (numbers 2 (c .before .before .before .list .given .0 .0) (now (c .before .before .before .before .before .before .before .before .before .before .before .before .before .before .before .args .ids))) g (λ i l. c .mark .ensures i (omega arith))
+roomy : (c : tie.After-known-told) → c .before .graph .given .0 .0 .edges ≤ length (now (c .before .before .before .before .before .before .before .before .before .before .before .args .room))
+roomy c =
+    let r = c .before .before .before .before .before .before .work-room in
+    omega (
+      arith,
+      ap (λ (y : Sizes). y .edges) (form c .sizes),
+      form c .within .counts .edges,
+      room-enough roomDeleteEdges (length (now (c .before .before .before .before .before .before .before .before .before .before .before .args .room))) (r .result) (r .ensures) _ (c .before .before .before .before .enum-told .given .1),
+    )
 
-sized : (c : tie.After-without-edges) (g : Graph) → graph.read form1 (now (c .before .before .before .before .before .before .before .before .before .before .before .before .before .before .before .before .before .before .before .args .src)) ≡ answered g
-    → sizesOf (deleteEdges (numbers 2 (c .before .before .before .before .before .before .before .list .given .0 .0) (now (c .before .before .before .before .before .before .before .before .before .before .before .before .before .before .before .before .before .before .before .args .ids))) g) ≡ c .without-edges .result
-sized c g p = sym (c .without-edges .ensures g p ∙ ap sizesOf (gone (c .before .before .before .before) g p))
+-- the list that was checked, and what is left without it
+list : (c : tie.After-known-told2) → Listed (formatOf (now (c .before .before .before .before .before .before .before .before .before .before .before .before .before .before .before .args .src))) (c .before .before .before .before .before .graph .given .0 .0 .edges) (c .before .before .before .before .before .graph .given .0 .0 .width) (now (c .before .before .before .before .before .before .before .before .before .before .before .before .before .before .before .args .ids)) (c .before .list .given .0 .0)
+list c =
+    let z = c .before .before .before .before .before .graph .given .0 .0 in
+    let f = formatOf (now (c .before .before .before .before .before .before .before .before .before .before .before .before .before .before .before .args .src)) in
+    let s = form (c .before .before .before .before) in
+    let w = sym (ap (λ (y : Sizes). y .width) (s .sizes)) in
+    listed f (z .edges) (z .width) (now (c .before .before .before .before .before .before .before .before .before .before .before .before .before .before .before .args .ids)) (stored-rows s .low .width) w (c .before .before .before .id-list .result) (c .before .before .before .id-list .ensures f w) _ (c .before .list .given .1)
 
-fits : (c : tie.After-known-told3) (g : Graph) (p : graph.read form1 (now (c .before .before .before .before .before .before .before .before .before .before .before .before .before .before .before .before .before .before .before .before .before .before .before .args .src)) ≡ answered g)
-    → Fits (record { graph = deleteEdges (numbers 2 (c .before .before .before .before .before .before .before .before .before .before .before .list .given .0 .0) (now (c .before .before .before .before .before .before .before .before .before .before .before .before .before .before .before .before .before .before .before .before .before .before .before .args .ids))) g; id = 0 }) (c .before .before .before .before .without-edges .result) (sized (c .before .before .before .before) g p) (length (now (c .before .before .before .before .before .before .before .before .before .before .before .before .before .before .before .before .before .before .before .before .before .before .before .args .out))) (c .before .fit .given .0 .0)
-fits c g p =
-    fit-bytes (record { graph = deleteEdges (numbers 2 (c .before .before .before .before .before .before .before .before .before .before .before .list .given .0 .0) (now (c .before .before .before .before .before .before .before .before .before .before .before .before .before .before .before .before .before .before .before .before .before .before .before .args .ids))) g; id = 0 }) (c .before .before .before .before .without-edges .result) (sized (c .before .before .before .before) g p) (length (now (c .before .before .before .before .before .before .before .before .before .before .before .before .before .before .before .before .before .before .before .before .before .before .before .args .out))) (c .before .fit .given .0 .0)
-    (sym (c .before .before .before .result-size .ensures) ∙ c .before .fit .given .1)
+abbrev left : tie.After-known-told2 → Next
+left c = record { graph = deleteEdges (span (now (c .before .before .before .before .before .before .before .before .before .before .before .before .before .before .before .args .ids)) (mapOf (c .before .before .before .before .before .graph .given .0 .0)) 0 (c .before .list .given .0 .0)) (graphOf (now (c .before .before .before .before .before .before .before .before .before .before .before .before .before .before .before .args .src))); id = 0 }
+
+goes-on : (c : tie.After-known-told2) → next (c .before .before .before .before .before .before .before .before .before .before .before .before .before .before .before) (formatOf (now (c .before .before .before .before .before .before .before .before .before .before .before .before .before .before .before .args .src))) (graphOf (now (c .before .before .before .before .before .before .before .before .before .before .before .before .before .before .before .args .src))) ≡ answered (left c)
+goes-on c =
+    let b = now (c .before .before .before .before .before .before .before .before .before .before .before .before .before .before .before .args .src) in
+    let ids = now (c .before .before .before .before .before .before .before .before .before .before .before .before .before .before .before .args .ids) in
+    edges-next (formatOf b) ids (graphOf b) _ (ap (λ (y : Sizes). idList (formatOf b) (y .edges) ids) (sym (form (c .before .before .before .before) .sizes)) ∙ list c .is)
+
+deleted : (c : tie.After-mark) → unmarkedEdges (c .mark .last .0) (c .before .before .before .before .before .before .before .graph .given .0 .0 .edges) (graphOf (now (c .before .before .before .before .before .before .before .before .before .before .before .before .before .before .before .before .before .args .src))) ≡ left (c .before .before) .graph
+deleted c = unmarked-deleted (c .mark .last .0) (c .before .before .before .before .before .before .before .graph .given .0 .0 .edges) _ (graphOf (now (c .before .before .before .before .before .before .before .before .before .before .before .before .before .before .before .before .before .args .src))) (c .mark .ensures)
+
+sizes : (c : tie.After-without-edges) → c .without-edges .result ≡ sizesOf (fitting (left (c .before .before .before .before .before .before) .graph)) (left (c .before .before .before .before .before .before) .graph)
+sizes c = c .without-edges .ensures ∙ ap (λ (h : Graph). sizesOf (fitting h) h) (deleted (c .before .before .before .before))
+
+work-room-requires : tie.Need-work-room-requires
+work-room-requires c κs = search needs
+
+enum-told : tie.Need-enum-told
+enum-told c = search needs
+
+enum-told-2 : tie.Need-enum-told-2
+enum-told-2 c = search needs
+
+refusal-requires : tie.Need-refusal-requires
+refusal-requires c κs = search needs
 
 returns : tie.Need-returns
 returns c =
-    let a = c .before .before .before .before .before .args in
-    gives-refused _ (now (a .out)) 10 (edges-10 (now (a .src)) (now (a .ids)) (length (now (a .out))) (length (now (a .room))) (omega arith))
+    let s = c .before .before .before .before .before .before .before .before in
+    let x = c .before .enum-told2 .given in
+    passes (c .refusal .ensures ∙ ap refusalIn (x .1))
+    (gives-refused (x .0 .0) (now (s .args .out)) (work-short roomDeleteEdges _ (call s) (c .before .before .before .work-room .result) (c .before .before .before .work-room .ensures) (x .0 .0) (x .1)))
 
 read-requires : tie.Need-read-requires
 read-requires c κs = search needs
@@ -66,100 +102,79 @@ read-requires c κs = search needs
 enum-known-graph : tie.Need-enum-known-graph
 enum-known-graph c = search needs
 
-enum-told : tie.Need-enum-told
-enum-told c = search needs
-
-refusal-requires : tie.Need-refusal-requires
-refusal-requires c κs = search needs
-
-returns-2 : tie.Need-returns-2
-returns-2 c =
-    let a = c .before .before .before .before .before .before .before .before .before .args in
-    let r = c .before .before .before .read in
-    let x = c .before .enum-told .given in
-    let n = x .0 .0 .no in
-    let all = inWorkRoom 2048 (length (now (a .room))) (onGraph form1 (now (a .src)) (length (now (a .out))) (deleteEdgesStep form1 (now (a .ids)))) in
-    let g = gives-refused all (now (a .out)) n
-    (edges-unread (now (a .src)) (now (a .ids)) (length (now (a .out))) (length (now (a .room))) (omega arith) n (unread (now (a .src)) (r .result) (r .ensures) (x .0 .0) (x .1))) in
-    (ap Refused (c .refusal .ensures ∙ ap readRefusal (x .1)) ∙ g .0, g .1)
-
-id-list-requires : tie.Need-id-list-requires
-id-list-requires c κs = search needs
-
-enum-known-list : tie.Need-enum-known-list
-enum-known-list c = search needs
-
-enum-told-2 : tie.Need-enum-told-2
-enum-told-2 c = search needs
+enum-told-3 : tie.Need-enum-told-3
+enum-told-3 c = search needs
 
 refusal-requires-2 : tie.Need-refusal-requires-2
 refusal-requires-2 c κs = search needs
 
-returns-3 : tie.Need-returns-3
-returns-3 c =
-    let a = c .before .before .before .before .before .before .before .before .before .before .before .before .before .args in
-    let f = form (c .before .before .before .before) in
-    let z = c .before .before .before .before .before .graph .given .0 .0 in
-    let r = c .before .before .before .id-list in
-    let x = c .before .enum-told2 .given in
-    let n = x .0 .0 .no in
-    let all = inWorkRoom 2048 (length (now (a .room))) (onGraph form1 (now (a .src)) (length (now (a .out))) (deleteEdgesStep form1 (now (a .ids)))) in
-    let e = ids-refused (z .edges) (now (a .ids)) (r .result) (r .ensures) (x .0 .0) (x .1) in
-    let g = gives-refused all (now (a .out)) n
-    (edges-7 (now (a .src)) (now (a .ids)) (length (now (a .out))) (length (now (a .room))) (omega arith) (f .graph) (f .read-as) n (ap (λ (k : ℕ). idList form1 k (now (a .ids))) (f .held .edge-count) ∙ e)) in
-    (ap Refused (c .refusal2 .ensures ∙ ap listRefusal (x .1)) ∙ g .0, g .1)
+returns-2 : tie.Need-returns-2
+returns-2 c =
+    let s = c .before .before .before .before .before .before .before .before .before .before .before in
+    let x = c .before .enum-told3 .given in
+    let r = c .before .before .before .read in
+    passes (c .refusal2 .ensures ∙ ap refusalRead (x .1))
+    (gives-by (enough (c .before .before .before .before)) (graph-unread (now (s .args .src)) (next s) (now (s .args .out)) (x .0 .0) (unread (now (s .args .src)) (r .result) (r .ensures) (x .0 .0) (x .1))))
 
-mark-requires : tie.Need-mark-requires
-mark-requires c κs =
-    let h = form (c .before .before .before .before .before) .held .limits .edges in
-    let l = ids (c .before) in
-    (omega arith, l .long, l .below)
+id-list-requires : tie.Need-id-list-requires
+id-list-requires c κs = stored-rows (form c) .low .width
 
-without-edges-requires : tie.Need-without-edges-requires
-without-edges-requires c κs =
-    let h = form (c .before .before .before .before .before .before .before .before .before) .held .limits .edges in
-    (sym (c .before .before .before .before .before .before .before .before .before .before .before .before .read .ensures) ∙ c .before .before .before .before .before .before .before .before .before .before .graph .given .1, omega arith)
+enum-known-list : tie.Need-enum-known-list
+enum-known-list c = search needs
 
-result-size-requires : tie.Need-result-size-requires
-result-size-requires c κs = search needs
-
-enum-known-fit : tie.Need-enum-known-fit
-enum-known-fit c = search needs
-
-enum-told-3 : tie.Need-enum-told-3
-enum-told-3 c = search needs
+enum-told-4 : tie.Need-enum-told-4
+enum-told-4 c = search needs
 
 refusal-requires-3 : tie.Need-refusal-requires-3
 refusal-requires-3 c κs = search needs
+
+returns-3 : tie.Need-returns-3
+returns-3 c =
+    let s = c .before .before .before .before .before .before .before .before .before .before .before .before .before .before .before in
+    let b = now (s .args .src) in
+    let x = c .before .enum-told4 .given in
+    let f = form (c .before .before .before .before) in
+    let e = list-refused _ (c .before .before .before .id-list .result) (c .before .before .before .id-list .ensures (formatOf b) (sym (ap (λ (y : Sizes). y .width) (f .sizes)))) (x .0 .0) (x .1) in
+    passes (c .refusal3 .ensures ∙ ap refusalIn (x .1))
+    (gives-by (enough (c .before .before .before .before .before .before .before .before)) (graph-stopped b (next s) (now (s .args .out)) f (x .0 .0)
+    (edges-stop (formatOf b) (now (s .args .ids)) (graphOf b) (x .0 .0) (ap (λ (y : Sizes). idList (formatOf b) (y .edges) (now (s .args .ids))) (sym (f .sizes)) ∙ e))))
+
+mark-requires : tie.Need-mark-requires
+mark-requires c κs = (roomy (c .before .before .before .before .before), list (c .before) .held, list (c .before) .below)
+
+without-edges-requires : tie.Need-without-edges-requires
+without-edges-requires c κs = let h = roomy (c .before .before .before .before .before .before .before .before .before) in (form (c .before .before .before .before .before .before .before .before .before), omega arith)
+
+result-size-requires : tie.Need-result-size-requires
+result-size-requires c κs = sizes c ∙ ap (λ (y : Sizes). fitted (countsOf y) (y .ports)) (sym (sizes c))
+
+enum-known-size : tie.Need-enum-known-size
+enum-known-size c = search needs
+
+enum-told-5 : tie.Need-enum-told-5
+enum-told-5 c = search needs
+
+refusal-requires-4 : tie.Need-refusal-requires-4
+refusal-requires-4 c κs = search needs
 
 same-length : tie.Need-same-length
 same-length c = search needs
 
 returns-4 : tie.Need-returns-4
 returns-4 c =
-    let a = c .before .before .before .before .before .before .before .before .before .before .before .before .before .before .before .before .before .before .before .before .before .before .before .args in
-    let f = form (c .before .before .before .before .before .before .before .before .before .before .before .before .before .before) in
-    let l = ids (c .before .before .before .before .before .before .before .before .before .before) in
+    let s = c .before .before .before .before .before .before .before .before .before .before .before .before .before .before .before .before .before .before .before .before .before .before .before .before .before in
+    let x = c .before .enum-told5 .given in
     let r = c .before .before .before .result-size in
-    let x = c .before .enum-told3 .given in
-    let n = x .0 .0 .no in
-    let all = inWorkRoom 2048 (length (now (a .room))) (onGraph form1 (now (a .src)) (length (now (a .out))) (deleteEdgesStep form1 (now (a .ids)))) in
-    let list = numbers 2 (c .before .before .before .before .before .before .before .before .before .before .before .list .given .0 .0) (now (a .ids)) in
-    let e = edges-made (now (a .src)) (now (a .ids)) (length (now (a .out))) (length (now (a .room))) (c .before .before .before .before .before .before .before .before .before .before .before .before .before .before .before .before .before .before .if1 .left) (f .graph) (f .read-as) list (ap (λ (k : ℕ). idList form1 k (now (a .ids))) (f .held .edge-count) ∙ l .is) in
-    let m = fit-refused (record { graph = deleteEdges list (f .graph); id = 0 }) (c .before .before .before .before .without-edges .result) (sized (c .before .before .before .before) (f .graph) (f .read-as)) (length (now (a .out))) (x .0 .0) (sym (r .ensures) ∙ x .1) in
-    let g = gives-refused all (now (a .out)) n (e ∙ m) in
-    (ap Refused (c .refusal3 .ensures ∙ ap fitRefusal (x .1)) ∙ g .0, g .1)
+    passes (c .refusal4 .ensures ∙ ap refusalIn (x .1))
+    (gives-by (enough (c .before .before .before .before .before .before .before .before .before .before .before .before .before .before .before .before .before .before)) (graph-refused (now (s .args .src)) (next s) (now (s .args .out)) (form (c .before .before .before .before .before .before .before .before .before .before .before .before .before .before)) (left (c .before .before .before .before .before .before .before .before .before .before)) (goes-on (c .before .before .before .before .before .before .before .before .before .before)) (c .before .before .before .before .without-edges .result) (sizes (c .before .before .before .before)) (r .result) (r .ensures) (x .0 .0) (x .1)))
 
 put-without-edges-requires : tie.Need-put-without-edges-requires
 put-without-edges-requires c κs =
-    let a = c .before .before .before .before .before .before .before .before .before .before .before .before .before .before .before .before .before .before .before .before .before .before .before .before .before .args in
-    let h = form (c .before .before .before .before .before .before .before .before .before .before .before .before .before .before .before .before) .held .limits .edges in (
-      (sym (c .before .before .before .before .before .before .before .before .before .before .before .before .before .before .before .before .before .before .before .read .ensures) ∙ c .before .before .before .before .before .before .before .before .before .before .before .before .before .before .before .before .before .graph .given .1, omega arith),
-      λ g p. (
-        c .before .before .before .before .before .before .without-edges .ensures g p,
-        subst (λ (k : Graph). length (encode form1 k) ≤ length (now (a .out))) (sym (gone (c .before .before .before .before .before .before .before .before .before .before) g p)) (fits (c .before .before) g p .room-is),
-      ),
-    )
+    let s = c .before .before .before .before .before .before .before .before .before .before .before .before .before .before .before .before .before .before .before .before .before .before .before .before .before .before .before in
+    let h = roomy (c .before .before .before .before .before .before .before .before .before .before .before .before .before .before .before .before) in
+    let r = c .before .before .before .before .before .result-size in
+    let fits = graph-fits (now (s .args .src)) (next s) (now (s .args .out)) (form (c .before .before .before .before .before .before .before .before .before .before .before .before .before .before .before .before)) (left (c .before .before .before .before .before .before .before .before .before .before .before .before)) (goes-on (c .before .before .before .before .before .before .before .before .before .before .before .before)) (c .before .before .before .before .before .before .without-edges .result) (sizes (c .before .before .before .before .before .before)) (r .result) (r .ensures) _ (c .before .before .before .size .given .1) in
+    ((form (c .before .before .before .before .before .before .before .before .before .before .before .before .before .before .before .before), omega arith, fits-room fits (now (s .args .out)) refl), c .before .before .before .before .before .before .without-edges .ensures)
 
 same-length-2 : tie.Need-same-length-2
 same-length-2 c = search needs
@@ -169,39 +184,38 @@ same-length-3 c = search needs
 
 returns-5 : tie.Need-returns-5
 returns-5 c =
-    let a = c .before .before .before .before .before .before .before .before .before .before .before .before .before .before .before .before .before .before .before .before .before .before .before .before .before .before .before .before .args in
-    let f = form (c .before .before .before .before .before .before .before .before .before .before .before .before .before .before .before .before .before .before .before) in
-    let l = ids (c .before .before .before .before .before .before .before .before .before .before .before .before .before .before .before) in
-    let k = fits (c .before .before .before .before .before) (f .graph) (f .read-as) in
-    let all = inWorkRoom 2048 (length (now (a .room))) (onGraph form1 (now (a .src)) (length (now (a .out))) (deleteEdgesStep form1 (now (a .ids)))) in
-    let list = numbers 2 (c .before .before .before .before .before .before .before .before .before .before .before .before .before .before .before .before .list .given .0 .0) (now (a .ids)) in
-    let e = edges-made (now (a .src)) (now (a .ids)) (length (now (a .out))) (length (now (a .room))) (c .before .before .before .before .before .before .before .before .before .before .before .before .before .before .before .before .before .before .before .before .before .before .before .if1 .left) (f .graph) (f .read-as) list (ap (λ (k : ℕ). idList form1 k (now (a .ids))) (f .held .edge-count) ∙ l .is) in
-    let g = gives-done all (now (a .out)) (record { form = encode form1 (deleteEdges list (f .graph)); id = 0 }) (e ∙ k .makes) in (
-      ap (λ (n : ℕ). Done n 0) (k .long) ∙ g .0,
-      c .before .before .put-without-edges .ensures (f .graph) (f .read-as) ∙ ap (λ (h : Graph). lay (encode form1 h) (now (a .out))) (gone (c .before .before .before .before .before .before .before .before .before .before .before .before .before) (f .graph) (f .read-as)) ∙ g .1,
-    )
+    let s = c .before .before .before .before .before .before .before .before .before .before .before .before .before .before .before .before .before .before .before .before .before .before .before .before .before .before .before .before .before .before in
+    let r = c .before .before .before .before .before .before .before .before .result-size in
+    let y = c .before .before .before .before .before .before .before .before .before .without-edges .result in
+    gives-by (enough (c .before .before .before .before .before .before .before .before .before .before .before .before .before .before .before .before .before .before .before .before .before .before .before))
+    (graph-done (now (s .args .src)) (next s) (now (s .args .out)) (form (c .before .before .before .before .before .before .before .before .before .before .before .before .before .before .before .before .before .before .before)) (left (c .before .before .before .before .before .before .before .before .before .before .before .before .before .before .before)) (goes-on (c .before .before .before .before .before .before .before .before .before .before .before .before .before .before .before)) y (sizes (c .before .before .before .before .before .before .before .before .before)) (r .result) (r .ensures) _ (c .before .before .before .before .before .before .size .given .1) _
+    (c .before .before .put-without-edges .ensures ∙ ap (λ (h : Graph). drawn (now (s .args .out)) y (labelRow h) (body h)) (deleted (c .before .before .before .before .before .before .before .before .before .before .before .before .before))))
 
 pub delete-edges-spec : {M : Type 1} → statement M
 delete-edges-spec =
     tie.close
     (tie.spec
+    work-room-requires
+    enum-told
+    enum-told-2
+    refusal-requires
     returns
     read-requires
     enum-known-graph
-    enum-told
-    refusal-requires
+    enum-told-3
+    refusal-requires-2
     returns-2
     id-list-requires
     enum-known-list
-    enum-told-2
-    refusal-requires-2
+    enum-told-4
+    refusal-requires-3
     returns-3
     mark-requires
     without-edges-requires
     result-size-requires
-    enum-known-fit
-    enum-told-3
-    refusal-requires-3
+    enum-known-size
+    enum-told-5
+    refusal-requires-4
     same-length
     returns-4
     put-without-edges-requires

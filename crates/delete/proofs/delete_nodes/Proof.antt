@@ -1,76 +1,113 @@
 -- `delete::delete_nodes` meets its contract.
 -- Assumes nothing.
 use mathlib.Core.List.{List}
-use mathlib.Core.Path.{_≡_, sym, ap, _∙_, subst}
-use Prim.Native.Nat.{ℕ, _*_, _/_, _≤_}
-use native.Mathlib.Omega.{arith}
+use mathlib.Core.Path.{_≡_, refl, sym, ap, _∙_, subst}
+use Prim.Native.Nat.{ℕ, _^_, _≤_, _<_}
+use native.Mathlib.Nat.{mul-le-mul-left}
 use lib.ListN.{length}
-use lib.Seq.{sets}
 use denote.Ref.{now}
+use Rattle.delete.specs.Marks.{marked, mapOf, Mapped}
+use Rattle.form.specs.Form.{meantBy, countsOf, refusalIn, refusalRead, sizesOf, GivesMap}
+use Rattle.form.specs.Stored.{graphOf, formatOf, Stored}
+use Rattle.form.specs.declared.Outcome.the-variants.{Done}
+use Rattle.form.specs.declared.Outcome.{Outcome}
+use Rattle.form.specs.declared.Sizes.{Sizes}
+use Rattle.graph.specs.Answer.{Answer, Result}
+use Rattle.graph.specs.Calls.{Next, inWorkRoom, nodesDeleted, roomDeleteNodes, deleteNodesCall}
+use Rattle.graph.specs.Delete.{withoutNodes, deleteNodes}
+use Rattle.graph.specs.Form.{labelRow, body}
+use Rattle.graph.specs.Graph.{Graph}
+use Rattle.graph.specs.Versions.{fitting}
+use Rattle.le.specs.Rows.{Holds, entry, span}
+use Rattle.write.specs.Write.{fitted, drawn}
+use Rattle.form.proofs.Answers.{list-refused, number-refused, number-answered, gives-map-done}
+use Rattle.form.proofs.Stored.{unread, stored, stored-rows}
+use Rattle.le.proofs.Numbers.{below-each}
+use Rattle.le.proofs.Rows.{holds-same, length-puts}
+use Rattle.write.proofs.Calls.{work-short, work-enough}
+use Rattle.write.proofs.Results.{Fits, result-refused, result-fits, fits-room, drawn-whole}
+use Rattle.delete.proofs.Calls.{room-enough, passes-map, Listed, listed, nodes-deleted, nodes-unread, nodes-unlisted, nodes-refused, nodes-no-map, nodes-done, map-put}
+use Rattle.delete.proofs.Parts.{map-there}
 use borrow.Author.Needs.{needs}
-use Rattle.delete.specs.Marks.{marked, placesOf}
-use Rattle.delete.specs.declared.Deleting.the-variants.{Done, Refused}
-use Rattle.form.specs.Form.{readRefusal, listRefusal, fitRefusal, sizesOf}
-use Rattle.graph.specs.Answer.{answered, lay}
-use Rattle.graph.specs.Calls.{inWorkRoom, idList, deleteNodesCall}
-use Rattle.graph.specs.Delete.{withoutNodes, deleteNodes, nodeMap}
-use Rattle.graph.specs.Form.{encode}
-use Rattle.graph.specs.Graph.{Graph, form1}
-use Rattle.graph.specs.Read as graph
-use Rattle.le.specs.Le.{Below, row, numbers}
-use Rattle.form.proofs.Calls.{fit-refused, Fits, fit-bytes}
-use Rattle.form.proofs.Whole.{unread}
-use Rattle.le.proofs.Numbers.{below-each, length-row}
-use Rattle.le.proofs.Stores.{sets-front}
-use Rattle.delete.proofs.Held.{Found, found, Held, holds, Ids, ids-listed, ids-refused}
-use Rattle.delete.proofs.Moves.{length-places, table-there}
-use Rattle.delete.proofs.NodesCall.{both-refused, both-done, nodes-10, nodes-unread, nodes-7, nodes-stopped, nodes-no-map, nodes-done}
-use Rattle.delete.proofs.NodesGone.{nodes-deleted, map-deleted}
+use native.Mathlib.Omega.{arith}
 use Rattle.delete.proofs.delete_nodes.Statement.{statement}
 use Rattle.delete.proofs.delete_nodes.Tie as tie
 
-bytes : (c : tie.After-shared-slice-known) → Below 256 (now (c .before .args .src))
-bytes c = below-each 256 (now (c .before .args .src)) (λ i l. omega (arith, c .shared-slice-known .given i))
+-- the call in work room enough
+abbrev call : tie.Start → Answer Result
+call s = nodesDeleted (now (s .args .src)) (now (s .args .ids)) (length (now (s .args .out))) (length (now (s .args .map)))
 
--- the form that was read
-form : (c : tie.After-known-told) → Found (now (c .before .before .before .before .before .before .before .before .before .before .args .src)) (c .before .graph .given .0 .0)
-form c = found (now (c .before .before .before .before .before .before .before .before .before .before .args .src)) (bytes (c .before .before .before .before .before .before .before .before .before)) (c .before .graph .given .0 .0) (sym (c .before .before .before .read .ensures) ∙ c .before .graph .given .1)
+enough : (c : tie.After-enum-told) → inWorkRoom roomDeleteNodes (length (now (c .before .before .before .before .before .before .before .before .args .room))) (call (c .before .before .before .before .before .before .before .before)) ≡ call (c .before .before .before .before .before .before .before .before)
+enough c = work-enough roomDeleteNodes _ (call (c .before .before .before .before .before .before .before .before)) (c .before .before .work-room .result) (c .before .before .work-room .ensures) _ (c .enum-told .given .1)
 
-held : (c : tie.After-known-told) (g : Graph) → graph.read form1 (now (c .before .before .before .before .before .before .before .before .before .before .args .src)) ≡ answered g → Held (now (c .before .before .before .before .before .before .before .before .before .before .args .src)) (c .before .graph .given .0 .0) g
-held c = holds (now (c .before .before .before .before .before .before .before .before .before .before .args .src)) (bytes (c .before .before .before .before .before .before .before .before .before)) (c .before .graph .given .0 .0) (sym (c .before .before .before .read .ensures) ∙ c .before .graph .given .1)
+-- the form that was read: there is a byte of room for each of its nodes
+form : (c : tie.After-known-told) → Stored (now (c .before .before .before .before .before .before .before .before .before .before .before .before .args .src)) (c .before .graph .given .0 .0)
+form c =
+    let b = now (c .before .before .before .before .before .before .before .before .before .before .before .before .args .src) in
+    stored b (c .before .before .before .read .result) (c .before .before .before .read .ensures) (below-each 256 b (λ i l. omega (arith, c .before .before .before .before .before .before .before .before .before .before .before .shared-slice-known .given i))) (c .before .graph .given .0 .0) (c .before .graph .given .1)
 
--- the list that was checked
-ids : (c : tie.After-known-told2) → Ids (c .before .before .before .before .before .graph .given .0 .0 .nodes) (now (c .before .before .before .before .before .before .before .before .before .before .before .before .before .before .args .ids)) (c .before .list .given .0 .0)
-ids c = ids-listed (c .before .before .before .before .before .graph .given .0 .0 .nodes) (now (c .before .before .before .before .before .before .before .before .before .before .before .before .before .before .args .ids)) (c .before .before .before .id-list .result) (c .before .before .before .id-list .ensures) (c .before .list .given .0 .0) (c .before .list .given .1)
+roomy : (c : tie.After-known-told) → c .before .graph .given .0 .0 .nodes ≤ length (now (c .before .before .before .before .before .before .before .before .before .before .before .before .args .room))
+roomy c =
+    let r = c .before .before .before .before .before .before .work-room in
+    omega (
+      arith,
+      ap (λ (y : Sizes). y .nodes) (form c .sizes),
+      form c .within .counts .nodes,
+      room-enough roomDeleteNodes (length (now (c .before .before .before .before .before .before .before .before .before .before .before .before .args .room))) (r .result) (r .ensures) _ (c .before .before .before .before .enum-told .given .1),
+    )
 
--- the marks are the list's
-gone : (c : tie.After-mark) (g : Graph) → graph.read form1 (now (c .before .before .before .before .before .before .before .before .before .before .before .before .before .before .before .before .args .src)) ≡ answered g → withoutNodes (marked (c .mark .last .0)) g ≡ deleteNodes (numbers 2 (c .before .before .before .list .given .0 .0) (now (c .before .before .before .before .before .before .before .before .before .before .before .before .before .before .before .before .args .ids))) g
-gone c g p = nodes-deleted (now (c .before .before .before .before .before .before .before .before .before .before .before .before .before .before .before .before .args .src)) (c .before .before .before .before .before .before .before .graph .given .0 .0) g (held (c .before .before .before .before .before .before) g p) (c .mark .last .0) (numbers 2 (c .before .before .before .list .given .0 .0) (now (c .before .before .before .before .before .before .before .before .before .before .before .before .before .before .before .before .args .ids))) (c .mark .ensures)
+-- the list that was checked, and what is left without it
+list : (c : tie.After-known-told2) → Listed (formatOf (now (c .before .before .before .before .before .before .before .before .before .before .before .before .before .before .before .before .args .src))) (c .before .before .before .before .before .graph .given .0 .0 .nodes) (c .before .before .before .before .before .graph .given .0 .0 .width) (now (c .before .before .before .before .before .before .before .before .before .before .before .before .before .before .before .before .args .ids)) (c .before .list .given .0 .0)
+list c =
+    let z = c .before .before .before .before .before .graph .given .0 .0 in
+    let f = formatOf (now (c .before .before .before .before .before .before .before .before .before .before .before .before .before .before .before .before .args .src)) in
+    let s = form (c .before .before .before .before) in
+    let w = sym (ap (λ (y : Sizes). y .width) (s .sizes)) in
+    listed f (z .nodes) (z .width) (now (c .before .before .before .before .before .before .before .before .before .before .before .before .before .before .before .before .args .ids)) (stored-rows s .low .width) w (c .before .before .before .id-list .result) (c .before .before .before .id-list .ensures f w) _ (c .before .list .given .1)
 
-places : (c : tie.After-mark) (g : Graph) → graph.read form1 (now (c .before .before .before .before .before .before .before .before .before .before .before .before .before .before .before .before .args .src)) ≡ answered g → placesOf (marked (c .mark .last .0)) (c .before .before .before .before .before .before .before .graph .given .0 .0 .nodes) ≡ nodeMap form1 (numbers 2 (c .before .before .before .list .given .0 .0) (now (c .before .before .before .before .before .before .before .before .before .before .before .before .before .before .before .before .args .ids))) g
-places c g p = map-deleted (now (c .before .before .before .before .before .before .before .before .before .before .before .before .before .before .before .before .args .src)) (c .before .before .before .before .before .before .before .graph .given .0 .0) g (held (c .before .before .before .before .before .before) g p) (c .mark .last .0) (numbers 2 (c .before .before .before .list .given .0 .0) (now (c .before .before .before .before .before .before .before .before .before .before .before .before .before .before .before .before .args .ids))) (c .mark .ensures)
+abbrev left : tie.After-known-told2 → Next
+left c = record { graph = deleteNodes (span (now (c .before .before .before .before .before .before .before .before .before .before .before .before .before .before .before .before .args .ids)) (mapOf (c .before .before .before .before .before .graph .given .0 .0)) 0 (c .before .list .given .0 .0)) (graphOf (now (c .before .before .before .before .before .before .before .before .before .before .before .before .before .before .before .before .args .src))); id = 0 }
 
--- the bytes of the map
-map-long : (c : tie.After-mark) (g : Graph) → graph.read form1 (now (c .before .before .before .before .before .before .before .before .before .before .before .before .before .before .before .before .args .src)) ≡ answered g → length (row 2 (nodeMap form1 (numbers 2 (c .before .before .before .list .given .0 .0) (now (c .before .before .before .before .before .before .before .before .before .before .before .before .before .before .before .before .args .ids))) g)) ≡ c .before .before .before .before .before .before .before .graph .given .0 .0 .nodes * 2
-map-long c g p =
-    length-row 2 (nodeMap form1 (numbers 2 (c .before .before .before .list .given .0 .0) (now (c .before .before .before .before .before .before .before .before .before .before .before .before .before .before .before .before .args .ids))) g)
-    ∙ ap (λ (n : ℕ). n * 2) (ap length (sym (places c g p)) ∙ length-places (marked (c .mark .last .0)) (c .before .before .before .before .before .before .before .graph .given .0 .0 .nodes))
+marks : (c : tie.After-mark) → c .before .before .before .before .before .before .before .graph .given .0 .0 .nodes ≤ length (c .mark .last .0)
+marks c = let h = roomy (c .before .before .before .before .before .before) in omega arith
 
-sized : (c : tie.After-without-nodes) (g : Graph) → graph.read form1 (now (c .before .before .before .before .before .before .before .before .before .before .before .before .before .before .before .before .before .before .before .before .args .src)) ≡ answered g → sizesOf (deleteNodes (numbers 2 (c .before .before .before .before .before .before .before .list .given .0 .0) (now (c .before .before .before .before .before .before .before .before .before .before .before .before .before .before .before .before .before .before .before .before .args .ids))) g) ≡ c .without-nodes .result
-sized c g p = sym (c .without-nodes .ensures g p ∙ ap sizesOf (gone (c .before .before .before .before) g p))
+deleted : (c : tie.After-mark) → withoutNodes (marked (c .mark .last .0) (c .before .before .before .before .before .before .before .graph .given .0 .0 .nodes)) (graphOf (now (c .before .before .before .before .before .before .before .before .before .before .before .before .before .before .before .before .before .before .args .src))) ≡ left (c .before .before) .graph
+deleted c = nodes-deleted (c .mark .last .0) (c .before .before .before .before .before .before .before .graph .given .0 .0 .nodes) _ (graphOf (now (c .before .before .before .before .before .before .before .before .before .before .before .before .before .before .before .before .before .before .args .src))) (c .mark .ensures)
 
-fits : (c : tie.After-known-told3) (g : Graph) (p : graph.read form1 (now (c .before .before .before .before .before .before .before .before .before .before .before .before .before .before .before .before .before .before .before .before .before .before .before .before .args .src)) ≡ answered g)
-    → Fits (record { graph = deleteNodes (numbers 2 (c .before .before .before .before .before .before .before .before .before .before .before .list .given .0 .0) (now (c .before .before .before .before .before .before .before .before .before .before .before .before .before .before .before .before .before .before .before .before .before .before .before .before .args .ids))) g; id = 0 }) (c .before .before .before .before .without-nodes .result) (sized (c .before .before .before .before) g p) (length (now (c .before .before .before .before .before .before .before .before .before .before .before .before .before .before .before .before .before .before .before .before .before .before .before .before .args .out))) (c .before .size .given .0 .0)
-fits c g p =
-    fit-bytes (record { graph = deleteNodes (numbers 2 (c .before .before .before .before .before .before .before .before .before .before .before .list .given .0 .0) (now (c .before .before .before .before .before .before .before .before .before .before .before .before .before .before .before .before .before .before .before .before .before .before .before .before .args .ids))) g; id = 0 }) (c .before .before .before .before .without-nodes .result) (sized (c .before .before .before .before) g p) (length (now (c .before .before .before .before .before .before .before .before .before .before .before .before .before .before .before .before .before .before .before .before .before .before .before .before .args .out))) (c .before .size .given .0 .0)
-    (sym (c .before .before .before .result-size .ensures) ∙ c .before .size .given .1)
+sizes : (c : tie.After-without-nodes) → c .without-nodes .result ≡ sizesOf (fitting (left (c .before .before .before .before .before .before) .graph)) (left (c .before .before .before .before .before .before) .graph)
+sizes c = c .without-nodes .ensures ∙ ap (λ (h : Graph). sizesOf (fitting h) h) (deleted (c .before .before .before .before))
+
+-- it can be written, and there is room for the map
+fits : (c : tie.After-known-told3) → Fits (left (c .before .before .before .before .before .before .before .before .before .before)) (c .before .before .before .before .without-nodes .result) (length (now (c .before .before .before .before .before .before .before .before .before .before .before .before .before .before .before .before .before .before .before .before .before .before .before .before .before .before .args .out))) (c .before .size .given .0 .0)
+fits c =
+    let r = c .before .before .before .result-size in
+    result-fits (left (c .before .before .before .before .before .before .before .before .before .before)) (c .before .before .before .before .without-nodes .result) (sizes (c .before .before .before .before)) (length (now (c .before .before .before .before .before .before .before .before .before .before .before .before .before .before .before .before .before .before .before .before .before .before .before .before .before .before .args .out))) _ (number-answered _ (r .result) (r .ensures) _ (c .before .size .given .1))
+
+map-held : (c : tie.After-enum-told6) → Holds (now (c .before .before .before .before .before .before .before .before .before .before .before .before .before .before .before .before .before .before .before .before .before .before .before .before .before .before .before .before .before .before .args .map)) (mapOf (c .before .before .before .before .before .before .before .before .before .before .before .before .before .before .before .before .before .before .before .graph .given .0 .0)) (c .before .before .before .before .before .before .before .before .before .before .before .before .before .before .before .before .before .before .before .graph .given .0 .0 .nodes)
+map-held c =
+    let r = c .before .before .work-room2 in
+    record {
+      wide = stored-rows (form (c .before .before .before .before .before .before .before .before .before .before .before .before .before .before .before .before .before .before)) .low .width;
+      inside = omega (arith, room-enough _ (length (now (c .before .before .before .before .before .before .before .before .before .before .before .before .before .before .before .before .before .before .before .before .before .before .before .before .before .before .before .before .before .before .args .map))) (r .result) (r .ensures) _ (c .enum-told6 .given .1));
+    }
+
+work-room-requires : tie.Need-work-room-requires
+work-room-requires c κs = search needs
+
+enum-told : tie.Need-enum-told
+enum-told c = search needs
+
+enum-told-2 : tie.Need-enum-told-2
+enum-told-2 c = search needs
+
+refusal-requires : tie.Need-refusal-requires
+refusal-requires c κs = search needs
 
 returns : tie.Need-returns
 returns c =
-    let a = c .before .before .before .before .before .before .args in
-    let all = inWorkRoom 2048 (length (now (a .room))) (deleteNodesCall form1 (now (a .src)) (now (a .ids)) (length (now (a .out))) (length (now (a .map)))) in
-    let g = both-refused all (now (a .out)) (now (a .map)) 10 (nodes-10 (now (a .src)) (now (a .ids)) (length (now (a .out))) (length (now (a .map))) (length (now (a .room))) (omega arith)) in
-    (g .0, (g .1, g .2))
+    let s = c .before .before .before .before .before .before .before .before .before in
+    let x = c .before .enum-told2 .given in
+    passes-map (c .refusal .ensures ∙ ap refusalIn (x .1)) (work-short roomDeleteNodes _ (call s) (c .before .before .before .work-room .result) (c .before .before .before .work-room .ensures) (x .0 .0) (x .1))
 
 read-requires : tie.Need-read-requires
 read-requires c κs = search needs
@@ -78,128 +115,120 @@ read-requires c κs = search needs
 enum-known-graph : tie.Need-enum-known-graph
 enum-known-graph c = search needs
 
-enum-told : tie.Need-enum-told
-enum-told c = search needs
-
-refusal-requires : tie.Need-refusal-requires
-refusal-requires c κs = search needs
-
-returns-2 : tie.Need-returns-2
-returns-2 c =
-    let a = c .before .before .before .before .before .before .before .before .before .before .args in
-    let r = c .before .before .before .read in
-    let x = c .before .enum-told .given in
-    let n = x .0 .0 .no in
-    let all = inWorkRoom 2048 (length (now (a .room))) (deleteNodesCall form1 (now (a .src)) (now (a .ids)) (length (now (a .out))) (length (now (a .map)))) in
-    let g = both-refused all (now (a .out)) (now (a .map)) n
-    (nodes-unread (now (a .src)) (now (a .ids)) (length (now (a .out))) (length (now (a .map))) (length (now (a .room))) (c .before .before .before .before .if1 .left) n (unread (now (a .src)) (r .result) (r .ensures) (x .0 .0) (x .1))) in
-    (ap Refused (c .refusal .ensures ∙ ap readRefusal (x .1)) ∙ g .0, (g .1, g .2))
-
-id-list-requires : tie.Need-id-list-requires
-id-list-requires c κs = search needs
-
-enum-known-list : tie.Need-enum-known-list
-enum-known-list c = search needs
-
-enum-told-2 : tie.Need-enum-told-2
-enum-told-2 c = search needs
+enum-told-3 : tie.Need-enum-told-3
+enum-told-3 c = search needs
 
 refusal-requires-2 : tie.Need-refusal-requires-2
 refusal-requires-2 c κs = search needs
 
+returns-2 : tie.Need-returns-2
+returns-2 c =
+    let s = c .before .before .before .before .before .before .before .before .before .before .before .before in
+    let x = c .before .enum-told3 .given in
+    let r = c .before .before .before .read in
+    passes-map (c .refusal2 .ensures ∙ ap refusalRead (x .1))
+    (enough (c .before .before .before .before) ∙ nodes-unread (now (s .args .src)) (now (s .args .ids)) _ _ (meantBy (x .0 .0)) (unread (now (s .args .src)) (r .result) (r .ensures) (x .0 .0) (x .1)))
+
+id-list-requires : tie.Need-id-list-requires
+id-list-requires c κs = stored-rows (form c) .low .width
+
+enum-known-list : tie.Need-enum-known-list
+enum-known-list c = search needs
+
+enum-told-4 : tie.Need-enum-told-4
+enum-told-4 c = search needs
+
+refusal-requires-3 : tie.Need-refusal-requires-3
+refusal-requires-3 c κs = search needs
+
 returns-3 : tie.Need-returns-3
 returns-3 c =
-    let a = c .before .before .before .before .before .before .before .before .before .before .before .before .before .before .args in
+    let s = c .before .before .before .before .before .before .before .before .before .before .before .before .before .before .before .before in
+    let b = now (s .args .src) in
+    let x = c .before .enum-told4 .given in
     let f = form (c .before .before .before .before) in
-    let z = c .before .before .before .before .before .graph .given .0 .0 in
-    let r = c .before .before .before .id-list in
-    let x = c .before .enum-told2 .given in
-    let n = x .0 .0 .no in
-    let all = inWorkRoom 2048 (length (now (a .room))) (deleteNodesCall form1 (now (a .src)) (now (a .ids)) (length (now (a .out))) (length (now (a .map)))) in
-    let e = ids-refused (z .nodes) (now (a .ids)) (r .result) (r .ensures) (x .0 .0) (x .1) in
-    let g = both-refused all (now (a .out)) (now (a .map)) n
-    (nodes-7 (now (a .src)) (now (a .ids)) (length (now (a .out))) (length (now (a .map))) (length (now (a .room))) (c .before .before .before .before .before .before .before .before .if1 .left) (f .graph) (f .read-as) n (ap (λ (k : ℕ). idList form1 k (now (a .ids))) (f .held .node-count) ∙ e)) in
-    (ap Refused (c .refusal2 .ensures ∙ ap listRefusal (x .1)) ∙ g .0, (g .1, g .2))
+    passes-map (c .refusal3 .ensures ∙ ap refusalIn (x .1))
+    (enough (c .before .before .before .before .before .before .before .before) ∙ nodes-unlisted b (now (s .args .ids)) _ _ f (meantBy (x .0 .0))
+    (list-refused _ (c .before .before .before .id-list .result) (c .before .before .before .id-list .ensures (formatOf b) (sym (ap (λ (y : Sizes). y .width) (f .sizes)))) (x .0 .0) (x .1)))
 
 mark-requires : tie.Need-mark-requires
-mark-requires c κs =
-    let h = form (c .before .before .before .before .before) .held .limits .nodes in
-    let l = ids (c .before) in
-    (omega (arith, c .before .before .before .before .before .before .before .before .before .if1 .left), l .long, l .below)
+mark-requires c κs = (roomy (c .before .before .before .before .before), list (c .before) .held, list (c .before) .below)
 
 without-nodes-requires : tie.Need-without-nodes-requires
-without-nodes-requires c κs =
-    let h = form (c .before .before .before .before .before .before .before .before .before) .held .limits .nodes in
-    (sym (c .before .before .before .before .before .before .before .before .before .before .before .before .read .ensures) ∙ c .before .before .before .before .before .before .before .before .before .before .graph .given .1, omega (arith, c .before .before .before .before .before .before .before .before .before .before .before .before .before .if1 .left, c .before .before .before .mark .kept .0))
+without-nodes-requires c κs = (form (c .before .before .before .before .before .before .before .before .before), marks (c .before .before .before))
 
 result-size-requires : tie.Need-result-size-requires
-result-size-requires c κs = search needs
+result-size-requires c κs = sizes c ∙ ap (λ (y : Sizes). fitted (countsOf y) (y .ports)) (sym (sizes c))
 
 enum-known-size : tie.Need-enum-known-size
 enum-known-size c = search needs
 
-enum-told-3 : tie.Need-enum-told-3
-enum-told-3 c = search needs
+enum-told-5 : tie.Need-enum-told-5
+enum-told-5 c = search needs
 
-refusal-requires-3 : tie.Need-refusal-requires-3
-refusal-requires-3 c κs = search needs
+refusal-requires-4 : tie.Need-refusal-requires-4
+refusal-requires-4 c κs = search needs
 
 same-length : tie.Need-same-length
 same-length c = search needs
 
 returns-4 : tie.Need-returns-4
 returns-4 c =
-    let a = c .before .before .before .before .before .before .before .before .before .before .before .before .before .before .before .before .before .before .before .before .before .before .before .before .args in
-    let f = form (c .before .before .before .before .before .before .before .before .before .before .before .before .before .before) in
-    let l = ids (c .before .before .before .before .before .before .before .before .before .before) in
+    let s = c .before .before .before .before .before .before .before .before .before .before .before .before .before .before .before .before .before .before .before .before .before .before .before .before .before .before in
+    let x = c .before .enum-told5 .given in
     let r = c .before .before .before .result-size in
-    let x = c .before .enum-told3 .given in
-    let n = x .0 .0 .no in
-    let all = inWorkRoom 2048 (length (now (a .room))) (deleteNodesCall form1 (now (a .src)) (now (a .ids)) (length (now (a .out))) (length (now (a .map)))) in
-    let m = fit-refused (record { graph = deleteNodes (numbers 2 (c .before .before .before .before .before .before .before .before .before .before .before .list .given .0 .0) (now (c .before .before .before .before .before .before .before .before .before .before .before .before .before .before .before .before .before .before .before .before .before .before .before .before .args .ids))) (f .graph); id = 0 }) (c .before .before .before .before .without-nodes .result) (sized (c .before .before .before .before) (f .graph) (f .read-as)) (length (now (a .out))) (x .0 .0) (sym (r .ensures) ∙ x .1) in
-    let g = both-refused all (now (a .out)) (now (a .map)) n (nodes-stopped (now (a .src)) (now (a .ids)) (length (now (a .out))) (length (now (a .map))) (length (now (a .room))) (c .before .before .before .before .before .before .before .before .before .before .before .before .before .before .before .before .before .before .if1 .left) (f .graph) (f .read-as) (numbers 2 (c .before .before .before .before .before .before .before .before .before .before .before .list .given .0 .0) (now (c .before .before .before .before .before .before .before .before .before .before .before .before .before .before .before .before .before .before .before .before .before .before .before .before .args .ids))) (ap (λ (k : ℕ). idList form1 k (now (a .ids))) (f .held .node-count) ∙ l .is) n m) in
-    (ap Refused (c .refusal3 .ensures ∙ ap fitRefusal (x .1)) ∙ g .0, (g .1, g .2))
+    passes-map (c .refusal4 .ensures ∙ ap refusalIn (x .1))
+    (enough (c .before .before .before .before .before .before .before .before .before .before .before .before .before .before .before .before .before .before) ∙ nodes-refused (now (s .args .src)) (now (s .args .ids)) _ _ (form (c .before .before .before .before .before .before .before .before .before .before .before .before .before .before)) _ (list (c .before .before .before .before .before .before .before .before .before .before) .is) (meantBy (x .0 .0))
+    (result-refused (left (c .before .before .before .before .before .before .before .before .before .before)) (c .before .before .before .before .without-nodes .result) (sizes (c .before .before .before .before)) (length (now (s .args .out))) (meantBy (x .0 .0)) (number-refused _ (r .result) (r .ensures) (x .0 .0) (x .1))))
 
-mul-if2 : tie.Need-mul-if2
-mul-if2 c = let h = form (c .before .before .before .before .before .before .before .before .before .before .before .before .before .before .before) .held .limits .nodes in omega arith
+mul-work-room : tie.Need-mul-work-room
+mul-work-room c =
+    let low = stored-rows (form (c .before .before .before .before .before .before .before .before .before .before .before .before .before .before .before)) .low in
+    omega (arith, mul-le-mul-left (c .before .before .before .before .before .before .before .before .before .before .before .before .before .before .before .before .graph .given .0 .0 .nodes) (low .narrow))
+
+work-room-requires-2 : tie.Need-work-room-requires-2
+work-room-requires-2 c κs = search needs
+
+enum-told-6 : tie.Need-enum-told-6
+enum-told-6 c = search needs
+
+enum-told-7 : tie.Need-enum-told-7
+enum-told-7 c = search needs
+
+refusal-requires-5 : tie.Need-refusal-requires-5
+refusal-requires-5 c κs = search needs
 
 same-length-2 : tie.Need-same-length-2
 same-length-2 c = search needs
 
 returns-5 : tie.Need-returns-5
 returns-5 c =
-    let a = c .before .before .before .before .before .before .before .before .before .before .before .before .before .before .before .before .before .before .before .before .before .before .before .before .before .before .args in
-    let f = form (c .before .before .before .before .before .before .before .before .before .before .before .before .before .before .before .before) in
-    let l = ids (c .before .before .before .before .before .before .before .before .before .before .before .before) in
-    let all = inWorkRoom 2048 (length (now (a .room))) (deleteNodesCall form1 (now (a .src)) (now (a .ids)) (length (now (a .out))) (length (now (a .map)))) in
-    let g = both-refused all (now (a .out)) (now (a .map)) 10
-    (nodes-no-map (now (a .src)) (now (a .ids)) (length (now (a .out))) (length (now (a .map))) (length (now (a .room))) (c .before .before .before .before .before .before .before .before .before .before .before .before .before .before .before .before .before .before .before .before .if1 .left) (f .graph) (f .read-as) (numbers 2 (c .before .before .before .before .before .before .before .before .before .before .before .before .before .list .given .0 .0) (now (c .before .before .before .before .before .before .before .before .before .before .before .before .before .before .before .before .before .before .before .before .before .before .before .before .before .before .args .ids))) (ap (λ (k : ℕ). idList form1 k (now (a .ids))) (f .held .node-count) ∙ l .is) (encode form1 (deleteNodes (numbers 2 (c .before .before .before .before .before .before .before .before .before .before .before .before .before .list .given .0 .0) (now (c .before .before .before .before .before .before .before .before .before .before .before .before .before .before .before .before .before .before .before .before .before .before .before .before .before .before .args .ids))) (f .graph))) (fits (c .before .before) (f .graph) (f .read-as) .makes)
-    (omega (arith, map-long (c .before .before .before .before .before .before .before .before .before .before) (f .graph) (f .read-as), c .if2 .taken))) in
-    (g .0, (g .1, g .2))
+    let s = c .before .before .before .before .before .before .before .before .before .before .before .before .before .before .before .before .before .before .before .before .before .before .before .before .before .before .before .before .before .before .before in
+    let x = c .before .enum-told7 .given in
+    let r = c .before .before .before .work-room2 in
+    passes-map (c .refusal5 .ensures ∙ ap refusalIn (x .1))
+    (enough (c .before .before .before .before .before .before .before .before .before .before .before .before .before .before .before .before .before .before .before .before .before .before .before) ∙ nodes-no-map (now (s .args .src)) (now (s .args .ids)) _ _ (form (c .before .before .before .before .before .before .before .before .before .before .before .before .before .before .before .before .before .before .before)) _ (list (c .before .before .before .before .before .before .before .before .before .before .before .before .before .before .before) .is) (fits (c .before .before .before .before .before) .makes) (r .result) (r .ensures) (x .0 .0) (x .1))
 
 put-map-requires : tie.Need-put-map-requires
-put-map-requires c κs =
-    let h = form (c .before .before .before .before .before .before .before .before .before .before .before .before .before .before .before .before .before .before) .held .limits .nodes in
-    (omega (arith, c .before .before .before .before .before .before .before .before .before .before .before .before .before .before .before .before .before .before .before .before .before .before .if1 .left, c .before .before .before .before .before .before .before .before .before .before .before .before .mark .kept .0), h, omega (arith, c .before .before .if2 .left))
+put-map-requires c κs = (marks (c .before .before .before .before .before .before .before .before .before .before .before .before .before .before), stored-rows (form (c .before .before .before .before .before .before .before .before .before .before .before .before .before .before .before .before .before .before .before .before)) .low .nodes, map-held (c .before .before))
 
 put-without-nodes-requires : tie.Need-put-without-nodes-requires
 put-without-nodes-requires c κs =
-    let a = c .before .before .before .before .before .before .before .before .before .before .before .before .before .before .before .before .before .before .before .before .before .before .before .before .before .before .before .before .before .before .before .before .before .before .args in
-    let h = form (c .before .before .before .before .before .before .before .before .before .before .before .before .before .before .before .before .before .before .before .before .before .before .before .before) .held .limits .nodes in
-    let m = c .before .before .before .before .before .put-map in (
-      (
-        sym (c .before .before .before .before .before .before .before .before .before .before .before .before .before .before .before .before .before .before .before .before .before .before .before .before .before .before .before .read .ensures) ∙ c .before .before .before .before .before .before .before .before .before .before .before .before .before .before .before .before .before .before .before .before .before .before .before .before .before .graph .given .1,
-        omega (arith, c .before .before .before .before .before .before .before .before .before .before .before .before .before .before .before .before .before .before .before .before .before .before .before .before .before .before .before .before .if1 .left, c .before .before .before .before .before .before .before .before .before .before .before .before .before .before .before .before .before .before .mark .kept .0),
-        omega (arith, c .before .before .before .before .before .before .before .before .if2 .left, m .kept .1 .1 .0),
-      ),
-      (
-        table-there (marked (c .before .before .before .before .before .before .before .before .before .before .before .before .before .before .before .before .before .before .mark .last .0)) (c .before .before .before .before .before .before .before .before .before .before .before .before .before .before .before .before .before .before .before .before .before .before .before .before .before .graph .given .0 .0 .nodes) h (now (a .map)) (m .last .1 .1 .0) (c .before .before .before .before .before .before .before .before .if2 .left) (m .ensures),
-        λ g p. (
-          c .before .before .before .before .before .before .before .before .before .before .before .before .before .before .without-nodes .ensures g p,
-          subst (λ (k : Graph). length (encode form1 k) ≤ length (now (a .out))) (sym (gone (c .before .before .before .before .before .before .before .before .before .before .before .before .before .before .before .before .before .before) g p)) (fits (c .before .before .before .before .before .before .before .before .before .before) g p .room-is),
-        ),
-      ),
-    )
+    let s = c .before .before .before .before .before .before .before .before .before .before .before .before .before .before .before .before .before .before .before .before .before .before .before .before .before .before .before .before .before .before .before .before .before .before .before .before .before .before in
+    let f = form (c .before .before .before .before .before .before .before .before .before .before .before .before .before .before .before .before .before .before .before .before .before .before .before .before .before .before) in
+    let z = c .before .before .before .before .before .before .before .before .before .before .before .before .before .before .before .before .before .before .before .before .before .before .before .before .before .before .before .graph .given .0 .0 in
+    let low = stored-rows f .low in
+    let room = c .before .before .before .before .before .before .before .before .before .before .before .before .before .before .before .before .before .before .before .before .mark .last .0 in
+    let p = c .before .before .before .before .before .put-map .ensures in
+    let small = subst (λ (y : Sizes). y .nodes < 256 ^ y .width) (sym (f .sizes)) (omega (arith, f .formed .counts .nodes, f .usable .nodes)) in
+    let mapped : Mapped z room (c .before .before .before .before .before .put-map .last .1 .1 .0) =
+    record {
+      low = low;
+      marks = marks (c .before .before .before .before .before .before .before .before .before .before .before .before .before .before .before .before .before .before .before .before);
+      held = holds-same (map-held (c .before .before .before .before .before .before .before .before)) _ (ap length p ∙ length-puts (now (s .args .map)) (mapOf z) 0 _);
+      new = λ i l u. ap (λ (b : List ℕ). entry b (mapOf z) i) p ∙ map-there z (marked room (z .nodes)) (now (s .args .map)) (map-held (c .before .before .before .before .before .before .before .before)) small i l u;
+    } in
+    ((f, mapped, fits-room (fits (c .before .before .before .before .before .before .before .before .before .before .before .before)) (now (s .args .out)) refl), c .before .before .before .before .before .before .before .before .before .before .before .before .before .before .before .before .without-nodes .ensures)
 
 same-length-3 : tie.Need-same-length-3
 same-length-3 c = search needs
@@ -212,49 +241,56 @@ same-length-5 c = search needs
 
 returns-6 : tie.Need-returns-6
 returns-6 c =
-    let a = c .before .before .before .before .before .before .before .before .before .before .before .before .before .before .before .before .before .before .before .before .before .before .before .before .before .before .before .before .before .before .before .before .before .before .before .before .before .args in
-    let f = form (c .before .before .before .before .before .before .before .before .before .before .before .before .before .before .before .before .before .before .before .before .before .before .before .before .before .before .before) in
-    let z = c .before .before .before .before .before .before .before .before .before .before .before .before .before .before .before .before .before .before .before .before .before .before .before .before .before .before .before .before .graph .given .0 .0 in
-    let l = ids (c .before .before .before .before .before .before .before .before .before .before .before .before .before .before .before .before .before .before .before .before .before .before .before) in
-    let k = fits (c .before .before .before .before .before .before .before .before .before .before .before .before .before) (f .graph) (f .read-as) in
-    let long = map-long (c .before .before .before .before .before .before .before .before .before .before .before .before .before .before .before .before .before .before .before .before .before) (f .graph) (f .read-as) in
-    let all = inWorkRoom 2048 (length (now (a .room))) (deleteNodesCall form1 (now (a .src)) (now (a .ids)) (length (now (a .out))) (length (now (a .map)))) in
-    let table = row 2 (nodeMap form1 (numbers 2 (c .before .before .before .before .before .before .before .before .before .before .before .before .before .before .before .before .before .before .before .before .before .before .before .before .list .given .0 .0) (now (c .before .before .before .before .before .before .before .before .before .before .before .before .before .before .before .before .before .before .before .before .before .before .before .before .before .before .before .before .before .before .before .before .before .before .before .before .before .args .ids))) (f .graph)) in
-    let room : length table ≤ length (now (a .map)) = omega (arith, long, c .before .before .before .before .before .before .before .before .before .before .before .if2 .left) in
-    let half : z .nodes ≡ length table / 2 = omega (arith, long) in
-    let g = both-done all (now (a .out)) (now (a .map)) (record { form = encode form1 (deleteNodes (numbers 2 (c .before .before .before .before .before .before .before .before .before .before .before .before .before .before .before .before .before .before .before .before .before .before .before .before .list .given .0 .0) (now (c .before .before .before .before .before .before .before .before .before .before .before .before .before .before .before .before .before .before .before .before .before .before .before .before .before .before .before .before .before .before .before .before .before .before .before .before .before .args .ids))) (f .graph)); map = table })
-    (nodes-done (now (a .src)) (now (a .ids)) (length (now (a .out))) (length (now (a .map))) (length (now (a .room))) (c .before .before .before .before .before .before .before .before .before .before .before .before .before .before .before .before .before .before .before .before .before .before .before .before .before .before .before .before .before .before .before .if1 .left) (f .graph) (f .read-as) (numbers 2 (c .before .before .before .before .before .before .before .before .before .before .before .before .before .before .before .before .before .before .before .before .before .before .before .before .list .given .0 .0) (now (c .before .before .before .before .before .before .before .before .before .before .before .before .before .before .before .before .before .before .before .before .before .before .before .before .before .before .before .before .before .before .before .before .before .before .before .before .before .args .ids))) (ap (λ (k : ℕ). idList form1 k (now (a .ids))) (f .held .node-count) ∙ l .is) (encode form1 (deleteNodes (numbers 2 (c .before .before .before .before .before .before .before .before .before .before .before .before .before .before .before .before .before .before .before .before .before .before .before .before .list .given .0 .0) (now (c .before .before .before .before .before .before .before .before .before .before .before .before .before .before .before .before .before .before .before .before .before .before .before .before .before .before .before .before .before .before .before .before .before .before .before .before .before .args .ids))) (f .graph))) (k .makes) room) in (
-      (λ i. Done (k .long i) (half i)) ∙ g .0,
-      (
-        c .before .before .put-without-nodes .ensures (f .graph) (f .read-as) ∙ ap (λ (h : Graph). lay (encode form1 h) (now (a .out))) (gone (c .before .before .before .before .before .before .before .before .before .before .before .before .before .before .before .before .before .before .before .before .before) (f .graph) (f .read-as)) ∙ g .1,
-        c .before .before .before .before .before .before .before .before .put-map .ensures ∙ ap (λ (ns : List ℕ). sets (now (a .map)) 0 (row 2 ns)) (places (c .before .before .before .before .before .before .before .before .before .before .before .before .before .before .before .before .before .before .before .before .before) (f .graph) (f .read-as)) ∙ sets-front (now (a .map)) table room ∙ g .2,
-      ),
-    )
+    let s = c .before .before .before .before .before .before .before .before .before .before .before .before .before .before .before .before .before .before .before .before .before .before .before .before .before .before .before .before .before .before .before .before .before .before .before .before .before .before .before .before .before in
+    let f = form (c .before .before .before .before .before .before .before .before .before .before .before .before .before .before .before .before .before .before .before .before .before .before .before .before .before .before .before .before .before) in
+    let l = list (c .before .before .before .before .before .before .before .before .before .before .before .before .before .before .before .before .before .before .before .before .before .before .before .before .before) in
+    let k = fits (c .before .before .before .before .before .before .before .before .before .before .before .before .before .before .before) in
+    let g = left (c .before .before .before .before .before .before .before .before .before .before .before .before .before .before .before .before .before .before .before .before .before .before .before .before .before) .graph in
+    let y = c .before .before .before .before .before .before .before .before .before .before .before .before .before .before .before .before .before .before .before .without-nodes .result in
+    let r = c .before .before .before .before .before .before .before .before .before .before .before .before .before .work-room2 in
+    let new = c .before .before .put-without-nodes .ensures ∙ ap (λ (h : Graph). drawn (now (s .args .out)) y (labelRow h) (body h)) (deleted (c .before .before .before .before .before .before .before .before .before .before .before .before .before .before .before .before .before .before .before .before .before .before .before))
+    ∙ drawn-whole (now (s .args .out)) g y (sizes (c .before .before .before .before .before .before .before .before .before .before .before .before .before .before .before .before .before .before .before)) (subst (λ (n : ℕ). n ≤ length (now (s .args .out))) (k .long) (k .enough)) in
+    let table = c .before .before .before .before .before .before .before .before .put-map .ensures
+    ∙ map-put (now (s .args .src)) (now (s .args .ids)) (length (now (s .args .out))) (length (now (s .args .map))) f _ (l .is) (c .before .before .before .before .before .before .before .before .before .before .before .before .before .before .before .before .before .before .before .before .before .before .before .mark .last .0) (now (s .args .map)) (c .before .before .before .before .before .before .before .before .before .before .before .before .before .before .before .before .before .before .before .before .before .before .before .mark .ensures)
+    (room-enough _ (length (now (s .args .map))) (r .result) (r .ensures) _ (c .before .before .before .before .before .before .before .before .before .before .before .enum-told6 .given .1)) in
+    let nodes = ap (λ (z : Sizes). z .nodes) (f .sizes) in
+    subst (λ (o : Outcome). GivesMap (deleteNodesCall (now (s .args .src)) (now (s .args .ids)) (length (now (s .args .out))) (length (now (s .args .map))) (length (now (s .args .room)))) o (now (s .args .out)) (c .before .before .put-without-nodes .last .1 .1 .1 .1 .1 .0) (now (s .args .map)) (c .before .before .before .before .before .before .before .before .put-map .last .1 .1 .0))
+    (λ i. Done (sym (k .long) i) (sym nodes i))
+    (gives-map-done _ (now (s .args .out)) _ (now (s .args .map)) _
+    (enough (c .before .before .before .before .before .before .before .before .before .before .before .before .before .before .before .before .before .before .before .before .before .before .before .before .before .before .before .before .before .before .before .before .before) ∙ nodes-done (now (s .args .src)) (now (s .args .ids)) (length (now (s .args .out))) (length (now (s .args .map))) f _ (l .is) (k .makes) (r .result) (r .ensures) _ (c .before .before .before .before .before .before .before .before .before .before .before .enum-told6 .given .1)) new table)
 
 pub delete-nodes-spec : {M : Type 1} → statement M
 delete-nodes-spec =
     tie.close
     (tie.spec
+    work-room-requires
+    enum-told
+    enum-told-2
+    refusal-requires
     returns
     read-requires
     enum-known-graph
-    enum-told
-    refusal-requires
+    enum-told-3
+    refusal-requires-2
     returns-2
     id-list-requires
     enum-known-list
-    enum-told-2
-    refusal-requires-2
+    enum-told-4
+    refusal-requires-3
     returns-3
     mark-requires
     without-nodes-requires
     result-size-requires
     enum-known-size
-    enum-told-3
-    refusal-requires-3
+    enum-told-5
+    refusal-requires-4
     same-length
     returns-4
-    mul-if2
+    mul-work-room
+    work-room-requires-2
+    enum-told-6
+    enum-told-7
+    refusal-requires-5
     same-length-2
     returns-5
     put-map-requires

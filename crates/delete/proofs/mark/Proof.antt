@@ -1,51 +1,47 @@
 -- `delete::mark` meets its contract.
 -- Assumes nothing.
-use mathlib.Core.Path.{_≡_, refl, ap, _∙_}
-use Prim.Native.Nat.{ℕ, _≤_, _<_, _-_}
-use native.Mathlib.Nat.{le-antisymm}
-use native.Mathlib.Omega.{arith}
+use mathlib.Core.List.{List, [], _∷_, _++_}
+use mathlib.Core.Path.{_≡_, refl, sym, ap, _∙_}
+use Prim.Native.Nat.{ℕ, _+_, _-_, _≤_, _<_}
+use native.Mathlib.Nat.{le-antisymm, zero-add}
 use lib.ListN.{length, length-set}
 use denote.Ref.{now}
 use Rattle.delete.specs.Marks.{marked}
 use Rattle.graph.specs.Lists.{among}
-use Rattle.le.specs.Le.{numbers}
-use Rattle.le.proofs.Numbers.{length-numbers, below-at}
-use Rattle.le.proofs.Places.{getD-numbers}
-use Rattle.delete.proofs.Marks.{unmarked, marked-more}
+use Rattle.le.specs.Rows.{entry, span}
+use Rattle.le.proofs.Rows.{holds-less, span-next}
+use Rattle.delete.proofs.Grows.{entry-below}
+use Rattle.delete.proofs.Marks.{cleared, marked-more}
+use native.Mathlib.Omega.{arith}
 use Rattle.delete.proofs.mark.Statement.{statement}
 use Rattle.delete.proofs.mark.Tie as tie
 
 abbrev Inv-loop : tie.InvT-loop
-Inv-loop room₀ count ids n k₀ room k =
-    (k ≤ n) × (length room ≡ length room₀) × ((i : ℕ) → i < count → marked room i ≡ among (numbers 2 k ids) i)
+Inv-loop room₀ count ids r n k₀ room k = (k ≤ n) × (length room ≡ length room₀) × (marked room count ≡ among (span ids r 0 k))
 
 abbrev μ-loop : tie.MeasureT-loop
-μ-loop room₀ count ids n k₀ room k = n - k
-
--- the id that was read is below the count
-listed : (c : tie.After-count-at Inv-loop μ-loop) → c .count-at .result < c .before .before .before .before .before .before .before .before .before .args .count
-listed c =
-    let s = c .before .before .before .before .before .before .before .before .before in
-    let a = s .args in
-    let k = c .before .before .loop .k in
-    omega (
-      arith,
-      c .count-at .ensures .0,
-      getD-numbers 2 (a .n) (now (a .ids)) k (omega arith),
-      below-at (a .count) (numbers 2 (a .n) (now (a .ids))) k (s .pre .2) (omega (arith, length-numbers 2 (a .n) (now (a .ids)))),
-    )
+μ-loop room₀ count ids r n k₀ room k = n - k
 
 clear-requires : tie.Need-clear-requires Inv-loop μ-loop
 clear-requires c κs = omega arith
 
 loop-holds : tie.Need-loop-holds Inv-loop μ-loop
-loop-holds c = (omega arith, refl, λ i h. unmarked (c .before .before .clear .last .0) i (c .before .before .clear .ensures i h))
+unfolding span
+loop-holds c =
+    let a = c .before .before .before .before .before .before .args in
+    (omega arith, refl, ap (λ (b : List ℕ). marked b (a .count)) (c .before .before .clear .ensures) ∙ cleared (now (a .room)) (a .count) (omega arith))
 
-mul-count-at : tie.Need-mul-count-at Inv-loop μ-loop
-mul-count-at c = omega arith
+-- the id that was read is the list's, and below the count
+read : (c : tie.After-number Inv-loop μ-loop) → c .number .result ≡ entry (now (c .before .before .before .before .before .before .before .before .before .args .ids)) (c .before .before .before .before .before .before .before .before .before .args .r) (0 + c .before .before .loop .k)
+read c = c .number .ensures .0 ∙ ap (entry (now (c .before .before .before .before .before .before .before .before .before .args .ids)) (c .before .before .before .before .before .before .before .before .before .args .r)) (sym (zero-add (c .before .before .loop .k)))
 
-count-at-requires : tie.Need-count-at-requires Inv-loop μ-loop
-count-at-requires c κs = omega arith
+listed : (c : tie.After-number Inv-loop μ-loop) → c .number .result < c .before .before .before .before .before .before .before .before .before .args .count
+listed c =
+    let s = c .before .before .before .before .before .before .before .before .before in
+    entry-below (s .args .count) (now (s .args .ids)) (s .args .r) 0 (s .args .n) (s .pre .2) (c .before .before .loop .k) (c .number .result) (omega arith) (read c)
+
+number-requires : tie.Need-number-requires Inv-loop μ-loop
+number-requires c κs = holds-less (c .before .before .before .before .before .before .before .before .pre .1) _ (omega arith)
 
 slice-write-room : tie.Need-slice-write-room Inv-loop μ-loop
 slice-write-room c = omega (arith, listed c)
@@ -59,21 +55,22 @@ loop-less c = omega arith
 loop-again : tie.Need-loop-again Inv-loop μ-loop
 loop-again c =
     let a = c .before .before .before .before .before .before .before .before .before .args in
-    let l = c .before .before .loop in (
+    let l = c .before .before .loop in
+    let ids = span (now (a .ids)) (a .r) 0 (l .k) in (
       omega arith,
       simp length-set (l .inv .1),
-      marked-more (l .room) (now (a .ids)) (a .count) (l .k) (c .count-at .result) (c .count-at .ensures .0) (omega (arith, listed c)) (l .inv .2),
+      marked-more (l .room) ids (a .count) (c .number .result) (listed c) (omega (arith, listed c)) (l .inv .2)
+          ∙ ap among ((λ i. ids ++ (read c i ∷ [])) ∙ sym (span-next (now (a .ids)) (a .r) 0 (l .k))),
     )
 
 same-length : tie.Need-same-length Inv-loop μ-loop
 same-length c = omega arith
 
 returns : tie.Need-returns Inv-loop μ-loop
-returns c i h =
+returns c =
     let a = c .before .before .before .before .before .before .before .before .args in
     let l = c .before .loop in
-    let e = le-antisymm (l .inv .0) (c .loop-test .left) in
-    l .inv .2 i h ∙ ap (λ (k : ℕ). among (numbers 2 k (now (a .ids))) i) e
+    l .inv .2 ∙ ap (λ (k : ℕ). among (span (now (a .ids)) (a .r) 0 k)) (le-antisymm (l .inv .0) (c .loop-test .left))
 
 pub mark-spec : {M : Type 1} → statement M
 mark-spec =
@@ -83,8 +80,7 @@ mark-spec =
     μ-loop
     clear-requires
     loop-holds
-    mul-count-at
-    count-at-requires
+    number-requires
     slice-write-room
     add-k
     loop-less

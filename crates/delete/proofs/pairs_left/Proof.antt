@@ -1,57 +1,49 @@
 -- `delete::pairs_left` meets its contract.
 -- Assumes nothing.
-use mathlib.Core.Bool.{Bool, not, _&&_}
-use mathlib.Core.List.{List, [], _∷_}
-use mathlib.Core.Path.{_≡_, refl, sym, ap, _∙_}
-use Prim.Native.Nat.{ℕ, _+_, _*_, _≤_, _-_}
-use native.Mathlib.Omega.{arith}
-use lib.ListN.{length, take, drop}
-use lib.Seq.{take-all}
+use mathlib.Core.Path.{_≡_, refl, ap, _∙_}
+use Prim.Native.Nat.{ℕ, _*_, _-_, _≤_}
+use native.Mathlib.Nat.{le-antisymm}
+use lib.ListN.{length}
 use denote.Ref.{now}
-use Rattle.delete.specs.Marks.{marked, stayingPairs}
+use Rattle.delete.specs.Marks.{marked}
+use Rattle.graph.specs.Delete.{renamedPairs}
 use Rattle.graph.specs.Lists.{paired}
-use Rattle.le.specs.Le.{numbers, numberAt}
-use Rattle.delete.proofs.Additive.{next-length, pairs-additive, keep-fewer}
-use Rattle.delete.proofs.Moves.{pair-count, pair-there, ends-below}
+use Rattle.le.specs.Le.{Below}
+use Rattle.le.specs.Rows.{span}
+use Rattle.le.proofs.Rows.{holds-less, holds-index}
+use Rattle.delete.proofs.Grows.{part-below, count-more, pairs-grow}
+use native.Mathlib.Omega.{arith}
 use Rattle.delete.proofs.pairs_left.Statement.{statement}
 use Rattle.delete.proofs.pairs_left.Tie as tie
 
 abbrev Inv-loop : tie.InvT-loop
-Inv-loop src at n room left₀ k₀ left k = (k ≤ n) × (left ≤ k) × (left ≡ length (stayingPairs (marked room) (take k (paired (numbers 2 (2 * n) (drop at src))))))
+Inv-loop src r k n room stay₀ i₀ stay i =
+    (i ≤ n) × (stay ≤ i) × ((m : ℕ) → Below m (span src r k (2 * n)) → stay ≡ length (renamedPairs (marked room m) (paired (span src r k (2 * i)))))
 
 abbrev μ-loop : tie.MeasureT-loop
-μ-loop src at n room left₀ k₀ left k = n - k
+μ-loop src r k n room stay₀ i₀ stay i = n - i
 
 loop-holds : tie.Need-loop-holds Inv-loop μ-loop
-loop-holds c = (omega arith, omega arith, refl)
+unfolding span
+loop-holds c = (omega arith, omega arith, λ m h. refl)
 
 mul-pair-left : tie.Need-mul-pair-left Inv-loop μ-loop
-mul-pair-left c = omega arith
+mul-pair-left c = omega (arith, holds-index (c .before .before .before .before .pre .0))
 
 add-pair-left : tie.Need-add-pair-left Inv-loop μ-loop
-add-pair-left c = omega arith
+add-pair-left c = omega (arith, holds-index (c .before .before .before .before .pre .0))
 
 pair-left-requires : tie.Need-pair-left-requires Inv-loop μ-loop
 pair-left-requires c κs =
     let s = c .before .before .before .before in
-    let h = ends-below (now (s .args .src)) (s .args .at) (s .args .n) (c .before .loop .k) (omega arith) (length (now (s .args .room))) (s .pre .1) in
-    (omega arith, h .0, h .1)
+    let a = s .args in
+    (holds-less (s .pre .0) _ (omega arith), part-below _ (now (a .src)) (a .r) (a .k) (2 * a .n) (s .pre .1) (2 * c .before .loop .i) 2 (omega arith))
 
--- a pair counts once at most
-once : (c : tie.After-pair-left Inv-loop μ-loop) → c .pair-left .result ≤ 1
-once c =
-    let a = c .before .before .before .before .before .args in
-    let k = c .before .before .loop .k in
-    omega (arith, c .pair-left .ensures, keep-fewer (both (marked (now (a .room)))) ((numberAt 2 (now (a .src)) (a .at + k * 4), numberAt 2 (now (a .src)) (a .at + k * 4 + 2)) ∷ []))
-  where
-    both : (ℕ → Bool) → ℕ × ℕ → Bool
-    both goes p = not (goes (p .0)) && not (goes (p .1))
+add-stay : tie.Need-add-stay Inv-loop μ-loop
+add-stay c = omega arith
 
-add-left : tie.Need-add-left Inv-loop μ-loop
-add-left c = omega (arith, once c)
-
-add-k : tie.Need-add-k Inv-loop μ-loop
-add-k c = omega arith
+add-i : tie.Need-add-i Inv-loop μ-loop
+add-i c = omega arith
 
 loop-less : tie.Need-loop-less Inv-loop μ-loop
 loop-less c = omega arith
@@ -60,20 +52,20 @@ loop-again : tie.Need-loop-again Inv-loop μ-loop
 loop-again c =
     let a = c .before .before .before .before .before .args in
     let l = c .before .before .loop in
-    let goes = marked (now (a .room)) in
-    let xs = paired (numbers 2 (2 * a .n) (drop (a .at) (now (a .src)))) in
-    let one = c .pair-left .ensures ∙ ap (λ (p : ℕ × ℕ). length (stayingPairs goes (p ∷ []))) (sym (pair-there (now (a .src)) (a .at) (a .n) (l .k) (omega arith))) in (
+    let b = now (a .src) in (
       omega arith,
-      omega (arith, once c),
-      omega (arith, l .inv .2, one, next-length (stayingPairs goes) (pairs-additive goes) xs (l .k) (0, 0) (omega (arith, pair-count (now (a .src)) (a .at) (a .n)))),
+      omega arith,
+      λ m h.
+          let one = c .pair-left .ensures .1 m (part-below m b (a .r) (a .k) (2 * a .n) h (2 * l .i) 2 (omega arith)) in
+          omega (arith, l .inv .2 m h, one, count-more (pairs-grow (marked (now (a .room)) m) b (a .r) (a .k) (a .n)) (l .i) (omega arith)),
     )
 
 returns : tie.Need-returns Inv-loop μ-loop
 returns c =
     let a = c .before .before .before .before .args in
     let l = c .before .loop in
-    let xs = paired (numbers 2 (2 * a .n) (drop (a .at) (now (a .src)))) in
-    l .inv .2 ∙ ap (λ (k : List (ℕ × ℕ)). length (stayingPairs (marked (now (a .room))) k)) (take-all (l .k) xs (omega (arith, pair-count (now (a .src)) (a .at) (a .n))))
+    let e = le-antisymm (l .inv .0) (c .loop-test .left) in
+    λ m h. l .inv .2 m h ∙ ap (λ (i : ℕ). length (renamedPairs (marked (now (a .room)) m) (paired (span (now (a .src)) (a .r) (a .k) (2 * i))))) e
 
 pub pairs-left-spec : {M : Type 1} → statement M
 pairs-left-spec =
@@ -85,8 +77,8 @@ pairs-left-spec =
     mul-pair-left
     add-pair-left
     pair-left-requires
-    add-left
-    add-k
+    add-stay
+    add-i
     loop-less
     loop-again
     returns)

@@ -1,82 +1,57 @@
 -- `delete::ports_left` meets its contract.
 -- Assumes nothing.
-use mathlib.Core.List.{List}
-use mathlib.Core.Path.{_≡_, refl, sym, ap, _∙_, subst}
-use Prim.Native.Nat.{_≤_, _<_, _-_}
-use native.Mathlib.Omega.{arith}
-use lib.ListN.{length, take, drop}
-use lib.Seq.{take-all}
+use mathlib.Core.List.{List, _++_, map}
+use Prim.Native.Nat.{ℕ, _-_, _≤_}
+use mathlib.Core.Path.{_≡_, refl, sym, ap, _∙_}
+use lib.ListN.{length, take}
 use denote.Ref.{now}
-use Rattle.delete.specs.Marks.{marked, staying}
-use Rattle.delete.specs.Writes.{EdgesAt}
+use Rattle.delete.specs.Marks.{marked}
+use Rattle.form.specs.Stored.{graphOf}
+use Rattle.form.specs.declared.Sizes.{Sizes}
+use Rattle.graph.specs.Delete.{renamed, renamedEdge}
+use Rattle.graph.specs.Form.{edgeStart}
 use Rattle.graph.specs.Graph.{Edge, edgeEntries}
-use Rattle.le.specs.Le.{Below}
-use Rattle.delete.proofs.Edges.{Step, step, counts-there}
-use Rattle.delete.proofs.EdgesMoved.{edge-below, entries-there, ports-turn, ports-fit}
+use Rattle.form.proofs.Stored.{stored-rows}
+use Rattle.le.proofs.Rows.{holds-index}
+use Rattle.delete.proofs.Edges.{edgeNo, Met, met, edge-held, ids-below, all-edges, edge-less}
+use Rattle.delete.proofs.Grows.{renamed-append, count-more, moved-grow}
+use native.Mathlib.Omega.{arith}
 use Rattle.delete.proofs.ports_left.Statement.{statement}
 use Rattle.delete.proofs.ports_left.Tie as tie
 
 abbrev Inv-loop : tie.InvT-loop
-Inv-loop src start n room at₀ ports₀ i₀ at ports i =
-    (i ≤ n) × ((es : List Edge) → length es ≡ n → EdgesAt src start es → EdgesAt src at (drop i es) × (ports ≡ length (staying (marked room) (edgeEntries (take i es)))))
+Inv-loop src room body k₀ ports₀ i₀ i-end k ports i =
+    (i ≤ i-end) × (ports ≤ k) × (k ≡ edgeStart (graphOf src .edges) i)
+    × (ports ≡ length (edgeEntries (map (renamedEdge (marked room (length (graphOf src .labels)))) (take i (graphOf src .edges)))))
 
 abbrev μ-loop : tie.MeasureT-loop
-μ-loop src start n room at₀ ports₀ i₀ at ports i = n - i
+μ-loop src room body k₀ ports₀ i₀ i-end k ports i = i-end - i
+
+body-row-requires : tie.Need-body-row-requires Inv-loop μ-loop
+body-row-requires c κs = stored-rows (c .before .before .pre .0) .low
 
 loop-holds : tie.Need-loop-holds Inv-loop μ-loop
-loop-holds c = (omega arith, λ es m h. (h, refl))
+loop-holds c = (omega arith, omega arith, refl, refl)
 
-ports-at-requires : tie.Need-ports-at-requires Inv-loop μ-loop
-ports-at-requires c κs =
-    let s = c .before .before .before .before in
+edge-at-requires : tie.Need-edge-at-requires Inv-loop μ-loop
+edge-at-requires c κs =
     let l = c .before .loop in
-    let es = s .pre .0 in
-    counts-there (now (s .args .src)) (l .at) es (l .i) (omega arith) (l .inv .1 es (s .pre .1) (s .pre .2) .0)
+    edge-held (c .before .before .before .before .before .pre .0) (l .i) (l .k) (omega arith) (l .inv .2) _ (c .before .before .body-row .ensures)
 
--- the edge that is read
-edge : (c : tie.After-ports-at Inv-loop μ-loop) → Step (now (c .before .before .before .before .before .args .src)) (c .before .before .loop .at) (c .before .before .before .before .before .pre .0) (c .before .before .loop .i) (c .ports-at .result)
+-- the edge that is met
+edge : (c : tie.After-edge-at Inv-loop μ-loop) → Met (now (c .before .before .before .before .before .before .args .src)) (c .before .before .before .body-row .result) (c .before .before .before .before .before .before .args .z) (c .before .before .loop .i) (c .before .before .loop .k) (c .edge-at .result)
 edge c =
-    let s = c .before .before .before .before .before in
     let l = c .before .before .loop in
-    let es = s .pre .0 in
-    step (now (s .args .src)) (l .at) es (l .i) (c .ports-at .result) (omega arith) (l .inv .1 es (s .pre .1) (s .pre .2) .0) (c .ports-at .ensures .0)
+    met (c .before .before .before .before .before .before .pre .0) (l .i) (l .k) (omega arith) (l .inv .2) _ (c .before .before .before .body-row .ensures) (c .edge-at .result) (c .edge-at .ensures)
 
 add-ids-left : tie.Need-add-ids-left Inv-loop μ-loop
-add-ids-left c = omega (arith, edge c .inside)
+add-ids-left c = omega (arith, edge (c .before) .low)
 
 ids-left-requires : tie.Need-ids-left-requires Inv-loop μ-loop
-ids-left-requires c κs =
-    let s = c .before .before .before .before .before in
-    let l = c .before .before .loop in
-    let es = s .pre .0 in
-    let k = l .inv .1 es (s .pre .1) (s .pre .2) in
-    let less : l .i < length es = omega arith in (
-      omega (arith, edge c .inside),
-      subst (Below (length (now (s .args .room)))) (sym (entries-there (now (s .args .src)) (marked (now (s .args .room))) es (l .at) (l .i) (l .ports) less (k .0) (k .1) (c .ports-at .result) (c .ports-at .ensures .0)))
-          (edge-below (length (now (s .args .room))) es (l .i) (s .pre .3) less),
-    )
+ids-left-requires c κs = (edge (c .before) .held, ids-below (edge (c .before)) _ (c .before .before .before .before .before .before .before .pre .1))
 
 add-ports : tie.Need-add-ports Inv-loop μ-loop
-add-ports c =
-    let s = c .before .before .before .before .before .before in
-    let l = c .before .before .before .loop in
-    let es = s .pre .0 in
-    let k = l .inv .1 es (s .pre .1) (s .pre .2) in
-    let n = c .before .ports-at in
-    omega (
-      arith,
-      s .pre .2 .ports,
-      ports-fit (now (s .args .src)) (marked (now (s .args .room))) es (l .at) (l .i) (l .ports) (omega arith) (k .0) (k .1) (n .result) (n .ensures .0) (c .ids-left .result) (c .ids-left .ensures),
-    )
-
-mul-at : tie.Need-mul-at Inv-loop μ-loop
-mul-at c = omega arith
-
-add-at : tie.Need-add-at Inv-loop μ-loop
-add-at c = omega arith
-
-add-at-2 : tie.Need-add-at-2 Inv-loop μ-loop
-add-at-2 c = omega (arith, edge (c .before) .inside)
+add-ports c = omega (arith, edge (c .before .before) .first, holds-index (edge (c .before .before) .held))
 
 add-i : tie.Need-add-i Inv-loop μ-loop
 add-i c = omega arith
@@ -86,23 +61,27 @@ loop-less c = omega arith
 
 loop-again : tie.Need-loop-again Inv-loop μ-loop
 loop-again c =
-    let a = c .before .before .before .before .before .before .args in
-    let l = c .before .before .before .loop in
-    let n = c .before .ports-at in (
+    let s = c .before .before .before .before .before .before .before .before in
+    let l = c .before .before .before .before .loop in
+    let m = edge (c .before .before) in
+    let g = graphOf (now (s .args .src)) in
+    let nodes = length (g .labels) in
+    let goes = marked (now (s .args .room)) nodes in
+    let e = edgeNo (now (s .args .src)) (l .i) in
+    let one = c .ids-left .ensures .1 nodes (ids-below m nodes (omega (arith, ap (λ (z : Sizes). z .nodes) (s .pre .0 .sizes))))
+    ∙ ap (λ (l : List ℕ). length (renamed goes l)) (m .ids) ∙ ap length (renamed-append goes (e .sources) (e .targets)) in (
       omega arith,
-      λ es m h.
-          let less : l .i < length es = omega arith in
-          let k = l .inv .1 es m h in (
-            step (now (a .src)) (l .at) es (l .i) (n .result) less (k .0) (n .ensures .0) .after,
-            ports-turn (now (a .src)) (marked (now (a .room))) es (l .at) (l .i) (l .ports) less (k .0) (k .1) (n .result) (n .ensures .0) (c .ids-left .result) (c .ids-left .ensures),
-          ),
+      omega (arith, m .past),
+      m .end,
+      omega (arith, l .inv .3, one, count-more (moved-grow goes (λ (e : Edge). e .sources ++ e .targets) (g .edges)) (l .i) (edge-less (s .pre .0) (l .i) (omega arith))),
     )
 
 returns : tie.Need-returns Inv-loop μ-loop
-returns c es m h =
-    let a = c .before .before .before .before .args in
+returns c =
+    let s = c .before .before .before .before .before in
     let l = c .before .loop in
-    l .inv .1 es m h .1 ∙ ap (λ (k : List Edge). length (staying (marked (now (a .room))) (edgeEntries k))) (take-all (l .i) es (omega arith))
+    let nodes = ap (λ (z : Sizes). z .nodes) (s .pre .0 .sizes) in
+    l .inv .3 ∙ (λ i. length (edgeEntries (map (renamedEdge (marked (now (s .args .room)) (sym nodes i))) (all-edges (s .pre .0) (l .i) (omega arith) i))))
 
 pub ports-left-spec : {M : Type 1} → statement M
 ports-left-spec =
@@ -110,14 +89,12 @@ ports-left-spec =
     (tie.spec
     Inv-loop
     μ-loop
+    body-row-requires
     loop-holds
-    ports-at-requires
+    edge-at-requires
     add-ids-left
     ids-left-requires
     add-ports
-    mul-at
-    add-at
-    add-at-2
     add-i
     loop-less
     loop-again

@@ -1,74 +1,73 @@
 -- `delete::put_left_edges` meets its contract.
 -- Assumes nothing.
-use mathlib.Core.Bool.{cond}
-use mathlib.Core.List.{List, []}
-use mathlib.Core.Path.{_≡_, ap, subst}
-use Prim.Native.Nat.{ℕ, _+_, _≤_, _<_, _-_}
-use native.Mathlib.Omega.{arith}
-use lib.ListN.{length, take, drop}
-use lib.Seq.{take-all}
+use mathlib.Core.List.{List}
+use Prim.Native.Nat.{ℕ, _+_, _-_, _≤_}
+use mathlib.Core.Path.{_≡_, refl, sym, subst}
+use lib.ListN.{take}
 use denote.Ref.{now}
 use Rattle.delete.specs.Marks.{marked}
-use Rattle.delete.specs.Writes.{EdgesAt, Put}
+use Rattle.form.specs.Stored.{graphOf}
 use Rattle.graph.specs.Delete.{remaining}
-use Rattle.graph.specs.Form.{edgeBytes}
-use Rattle.graph.specs.Graph.{Edge, form1}
+use Rattle.graph.specs.Form.{edgeRow, edgeStart}
+use Rattle.graph.specs.Graph.{Edge}
 use Rattle.graph.specs.Lists.{joined}
-use Rattle.delete.proofs.Edges.{Step, step, counts-there, noEdge}
-use Rattle.delete.proofs.Writing.{put-none, put-as, put-length, put-more, put-fits}
+use Rattle.le.specs.Rows.{Holds}
+use Rattle.write.specs.Write.{Put}
+use Rattle.form.proofs.Stored.{stored-rows}
+use Rattle.le.proofs.Rows.{holds-less, holds-index}
+use Rattle.write.proofs.Results.{put-none}
+use Rattle.delete.proofs.Edges.{Met, met, edge-held, all-edges, all-fits, edge-less}
+use Rattle.delete.proofs.Grows.{put-length, edges-grow, unless-long, put-unless, put-fits, put-more}
+use native.Mathlib.Omega.{arith}
 use Rattle.delete.proofs.put_left_edges.Statement.{statement}
 use Rattle.delete.proofs.put_left_edges.Tie as tie
 
 abbrev Inv-loop : tie.InvT-loop
-Inv-loop src start n room out₀ first at₀ to₀ i₀ out at to i =
-    (i ≤ n) × ((es : List Edge) → length es ≡ n → EdgesAt src start es
-    → EdgesAt src at (drop i es) × Put out₀ first (joined (edgeBytes form1) (remaining (marked room) 0 (take i es))) out to)
+Inv-loop src room out₀ to body k₀ j₀ i₀ i-end out k j i =
+    (i ≤ i-end) × (k ≡ edgeStart (graphOf src .edges) i) × Put out₀ to 0 (joined edgeRow (remaining (marked room i-end) 0 (take i (graphOf src .edges)))) out j
 
 abbrev μ-loop : tie.MeasureT-loop
-μ-loop src start n room out₀ first at₀ to₀ i₀ out at to i = n - i
+μ-loop src room out₀ to body k₀ j₀ i₀ i-end out k j i = i-end - i
+
+body-row-requires : tie.Need-body-row-requires Inv-loop μ-loop
+body-row-requires c κs = stored-rows (c .before .before .before .pre .0) .low
 
 loop-holds : tie.Need-loop-holds Inv-loop μ-loop
-loop-holds c = (omega arith, λ es m h. (h, put-none (now (c .before .before .before .args .out)) (c .before .before .before .args .first)))
+loop-holds c = (omega arith, refl, put-none)
 
-ports-at-requires : tie.Need-ports-at-requires Inv-loop μ-loop
-ports-at-requires c κs =
-    let s = c .before .before .before .before .before in
+edge-at-requires : tie.Need-edge-at-requires Inv-loop μ-loop
+edge-at-requires c κs =
     let l = c .before .loop in
-    let es = s .pre .1 .0 in
-    counts-there (now (s .args .src)) (l .at) es (l .i) (omega arith) (l .inv .1 es (s .pre .1 .1) (s .pre .1 .2) .0)
+    edge-held (c .before .before .before .before .before .before .pre .0) (l .i) (l .k) (omega arith) (l .inv .1) _ (c .before .before .body-row .ensures)
 
-mul-bytes : tie.Need-mul-bytes Inv-loop μ-loop
-mul-bytes c = omega arith
-
-add-bytes : tie.Need-add-bytes Inv-loop μ-loop
-add-bytes c = omega arith
-
--- the edge that is read
-edge : (c : tie.After-ports-at Inv-loop μ-loop) → Step (now (c .before .before .before .before .before .before .args .src)) (c .before .before .loop .at)
-    (c .before .before .before .before .before .before .pre .1 .0) (c .before .before .loop .i) (c .ports-at .result)
+-- the edge that is met
+edge : (c : tie.After-edge-at Inv-loop μ-loop) → Met (now (c .before .before .before .before .before .before .before .args .src)) (c .before .before .before .body-row .result) (c .before .before .before .before .before .before .before .args .z) (c .before .before .loop .i) (c .before .before .loop .k) (c .edge-at .result)
 edge c =
-    let s = c .before .before .before .before .before .before in
     let l = c .before .before .loop in
-    let es = s .pre .1 .0 in
-    step (now (s .args .src)) (l .at) es (l .i) (c .ports-at .result) (omega arith) (l .inv .1 es (s .pre .1 .1) (s .pre .1 .2) .0) (c .ports-at .ensures .0)
+    met (c .before .before .before .before .before .before .before .pre .0) (l .i) (l .k) (omega arith) (l .inv .1) _ (c .before .before .before .body-row .ensures) (c .edge-at .result) (c .edge-at .ensures)
 
-put-left-edge-requires : tie.Need-put-left-edge-requires Inv-loop μ-loop
-put-left-edge-requires c κs =
-    let s = c .before .before .before .before .before .before .before in
-    let a = s .args in
-    let l = c .before .before .before .loop in
-    let goes = marked (now (a .room)) in
-    let es = s .pre .1 .0 in
-    let e = edge (c .before) in
-    let k = l .inv .1 es (s .pre .1 .1) (s .pre .1 .2) .1 in
-    let bound : a .first + length (joined (edgeBytes form1) (remaining goes 0 es)) ≤ length (l .out) = omega (arith, s .pre .1 .3, put-length k) in (
-      e .inside,
-      omega arith,
-      subst (λ (n : ℕ). l .to + cond (goes (l .i)) 0 n ≤ length (l .out)) (e .long) (put-fits (edgeBytes form1) goes es noEdge (l .i) (omega arith) (now (a .out)) (a .first) (l .to) (length (l .out)) (k .next) bound),
-    )
+sub-if-stays : tie.Need-sub-if-stays Inv-loop μ-loop
+sub-if-stays c = omega (arith, edge (c .before) .past)
 
-add-at : tie.Need-add-at Inv-loop μ-loop
-add-at c = omega (arith, edge (c .before .before .before .before) .inside)
+if-stays-requires : tie.Need-if-stays-requires Inv-loop μ-loop
+if-stays-requires c κs = omega arith
+
+-- room for the edge, if it stays
+fits : (c : tie.After-copy-numbers-arg Inv-loop μ-loop) → Holds (c .before .before .before .before .before .loop .out) (c .before .before .before .before .before .before .before .before .before .before .args .to) (c .before .before .before .before .before .loop .j + c .before .if-stays .result)
+fits c =
+    let s = c .before .before .before .before .before .before .before .before .before .before in
+    let l = c .before .before .before .before .before .loop in
+    let es = graphOf (now (s .args .src)) .edges in
+    let goes = marked (now (s .args .room)) (s .args .z .edges) in
+    subst (λ (m : ℕ). Holds (l .out) (s .args .to) (l .j + m))
+    (sym (unless-long _ _ (l .k) _ _ (goes (l .i)) _ (edge (c .before .before .before) .whole) (c .before .if-stays .ensures .1 (s .args .z .edges) (omega arith))))
+    (put-fits (edges-grow goes edgeRow es) (edge-less (s .pre .0) (l .i) (omega arith)) (l .inv .2) (all-fits (λ (es : List Edge). joined edgeRow (remaining goes 0 es)) es (s .pre .2)))
+
+copy-numbers-requires : tie.Need-copy-numbers-requires Inv-loop μ-loop
+copy-numbers-requires c κs = (fits c, holds-less (edge (c .before .before .before) .held) _ (omega (arith, edge (c .before .before .before) .past, edge (c .before .before .before) .first)))
+
+add-j : tie.Need-add-j Inv-loop μ-loop
+add-j c = omega (arith, holds-index (fits (c .before .before .before)), put-length (c .before .before .before .before .before .before .before .before .loop .inv .2))
 
 add-i : tie.Need-add-i Inv-loop μ-loop
 add-i c = omega arith
@@ -78,29 +77,25 @@ loop-less c = omega arith
 
 loop-again : tie.Need-loop-again Inv-loop μ-loop
 loop-again c =
-    let a = c .before .before .before .before .before .before .before .before .before .before .args in
-    let l = c .before .before .before .before .before .before .loop in
-    let goes = marked (now (a .room)) in
-    let p = c .before .before .put-left-edge in
-    let n = c .before .before .before .before .ports-at in (
+    let s = c .before .before .before .before .before .before .before .before .before .before .before .before .before in
+    let l = c .before .before .before .before .before .before .before .before .loop in
+    let m = edge (c .before .before .before .before .before .before) in
+    let goes = marked (now (s .args .room)) (s .args .z .edges) in (
       omega arith,
-      λ es m h.
-          let less : l .i < length es = omega arith in
-          let k = l .inv .1 es m h in
-          let e = step (now (a .src)) (l .at) es (l .i) (n .result) less (k .0) (n .ensures .0) in
-          (e .after, put-more (edgeBytes form1) goes es noEdge (l .i) less (now (a .out)) (a .first) (l .out) (l .to) _ _ (k .1) (put-as (ap (λ (v : List ℕ). cond {A = List ℕ} (goes (l .i)) [] v) (e .whole)) (p .ensures))),
+      m .end,
+      put-more (edges-grow goes edgeRow (graphOf (now (s .args .src)) .edges)) (edge-less (s .pre .0) (l .i) (omega arith)) (l .inv .2)
+          (put-unless _ _ (l .k) _ _ (goes (l .i)) _ (m .whole) (c .before .before .before .before .if-stays .ensures .1 (s .args .z .edges) (omega arith)) (c .before .before .copy-numbers .ensures)),
     )
 
 same-length : tie.Need-same-length Inv-loop μ-loop
-same-length c =
-    let s = c .before .before .before .before .before in
-    put-length (c .before .loop .inv .1 (s .pre .1 .0) (s .pre .1 .1) (s .pre .1 .2) .1)
+same-length c = put-length (c .before .loop .inv .2)
 
 returns : tie.Need-returns Inv-loop μ-loop
-returns c es m h =
-    let a = c .before .before .before .before .before .args in
+returns c =
+    let s = c .before .before .before .before .before .before in
     let l = c .before .loop in
-    put-as (ap (λ (k : List Edge). joined (edgeBytes form1) (remaining (marked (now (a .room))) 0 k)) (take-all (l .i) es (omega arith))) (l .inv .1 es m h .1)
+    subst (λ (es : List Edge). Put (now (s .args .out)) (s .args .to) 0 (joined edgeRow (remaining (marked (now (s .args .room)) (s .args .z .edges)) 0 es)) (l .out) (l .j))
+    (all-edges (s .pre .0) (l .i) (omega arith)) (l .inv .2)
 
 pub put-left-edges-spec : {M : Type 1} → statement M
 put-left-edges-spec =
@@ -108,12 +103,13 @@ put-left-edges-spec =
     (tie.spec
     Inv-loop
     μ-loop
+    body-row-requires
     loop-holds
-    ports-at-requires
-    mul-bytes
-    add-bytes
-    put-left-edge-requires
-    add-at
+    edge-at-requires
+    sub-if-stays
+    if-stays-requires
+    copy-numbers-requires
+    add-j
     add-i
     loop-less
     loop-again

@@ -1,50 +1,55 @@
 -- `delete::put_left_labels` meets its contract.
 -- Assumes nothing.
-use mathlib.Core.Bool.{cond}
-use mathlib.Core.List.{List, []}
-use mathlib.Core.Path.{_≡_, sym, ap, _∙_}
-use Prim.Native.Nat.{ℕ, _+_, _≤_, _-_}
-use native.Mathlib.Omega.{arith}
-use lib.ListN.{length, take, drop}
-use lib.Seq.{take-all}
+use mathlib.Core.Path.{sym, subst}
+use Prim.Native.Nat.{ℕ, _+_, _-_, _≤_, _<_}
+use native.Mathlib.Nat.{le-antisymm}
 use denote.Ref.{now}
 use Rattle.delete.specs.Marks.{marked}
-use Rattle.delete.specs.Writes.{Put}
 use Rattle.graph.specs.Delete.{remaining}
-use Rattle.graph.specs.Lists.{joined}
-use Rattle.le.specs.Le.{bytes, numbers}
-use Rattle.le.proofs.Numbers.{length-numbers}
-use Rattle.delete.proofs.Writing.{put-none, put-as, put-length, put-more, put-fits, row-joined, number-there}
+use Rattle.le.specs.Rows.{Holds, span}
+use Rattle.write.specs.Write.{Put}
+use Rattle.le.proofs.Rows.{holds-less, holds-index, span-one}
+use Rattle.write.proofs.Results.{put-none}
+use Rattle.delete.proofs.Grows.{put-length, labels-grow, unless-long, put-unless, put-fits, put-more}
+use native.Mathlib.Omega.{arith}
 use Rattle.delete.proofs.put_left_labels.Statement.{statement}
 use Rattle.delete.proofs.put_left_labels.Tie as tie
 
 abbrev Inv-loop : tie.InvT-loop
-Inv-loop src at n room out₀ first to₀ i₀ out to i =
-    (i ≤ n) × Put out₀ first (joined (bytes 4) (remaining (marked room) 0 (take i (numbers 4 n (drop at src))))) out to
+Inv-loop src from k n room out₀ to first j₀ i₀ out j i =
+    (i ≤ n) × Put out₀ to first (remaining (marked room n) 0 (span src from k i)) out j
 
 abbrev μ-loop : tie.MeasureT-loop
-μ-loop src at n room out₀ first to₀ i₀ out to i = n - i
+μ-loop src from k n room out₀ to first j₀ i₀ out j i = n - i
 
 loop-holds : tie.Need-loop-holds Inv-loop μ-loop
-loop-holds c = (omega arith, put-none (now (c .before .before .before .args .out)) (c .before .before .before .args .first))
+unfolding span
+loop-holds c = (omega arith, put-none)
 
-mul-put-left-label : tie.Need-mul-put-left-label Inv-loop μ-loop
-mul-put-left-label c = omega arith
+if-stays-requires : tie.Need-if-stays-requires Inv-loop μ-loop
+if-stays-requires c κs = omega arith
 
-add-put-left-label : tie.Need-add-put-left-label Inv-loop μ-loop
-add-put-left-label c = omega arith
+add-copy-numbers : tie.Need-add-copy-numbers Inv-loop μ-loop
+add-copy-numbers c = omega (arith, holds-index (c .before .before .before .before .before .before .before .pre .0))
 
-put-left-label-requires : tie.Need-put-left-label-requires Inv-loop μ-loop
-put-left-label-requires c κs =
-    let s = c .before .before .before .before .before .before in
+-- room for the label, if it stays
+fits : (c : tie.After-copy-numbers-arg Inv-loop μ-loop) → Holds (c .before .before .before .loop .out) (c .before .before .before .before .before .before .before .args .to) (c .before .before .before .loop .j + c .before .if-stays .result)
+fits c =
+    let s = c .before .before .before .before .before .before .before in
     let a = s .args in
-    let l = c .before .before .loop in
-    let goes = marked (now (a .room)) in
-    let xs = numbers 4 (a .n) (drop (a .at) (now (a .src))) in
-    let many : length xs ≡ a .n = length-numbers 4 (a .n) (drop (a .at) (now (a .src))) in
-    let bound : a .first + length (joined (bytes 4) (remaining goes 0 xs)) ≤ length (l .out) =
-    omega (arith, s .pre .2, ap length (row-joined 4 (remaining goes 0 xs)), put-length (l .inv .1)) in
-    (omega arith, omega arith, put-fits (bytes 4) goes xs 0 (l .i) (omega arith) (now (a .out)) (a .first) (l .to) (length (l .out)) (l .inv .1 .next) bound)
+    let l = c .before .before .before .loop in
+    let b = now (a .src) in
+    let goes = marked (now (a .room)) (a .n) in
+    let less : l .i < a .n = omega arith in
+    subst (λ (m : ℕ). Holds (l .out) (a .to) (l .j + m))
+    (sym (unless-long b (a .from) (a .k + l .i) 1 _ (goes (l .i)) _ (span-one b (a .from) (a .k + l .i)) (c .before .if-stays .ensures .1 (a .n) less)))
+    (put-fits (labels-grow goes b (a .from) (a .k) (a .n)) less (l .inv .1) (s .pre .2))
+
+copy-numbers-requires : tie.Need-copy-numbers-requires Inv-loop μ-loop
+copy-numbers-requires c κs = (fits c, holds-less (c .before .before .before .before .before .before .before .pre .0) _ (omega arith))
+
+add-j : tie.Need-add-j Inv-loop μ-loop
+add-j c = omega (arith, holds-index (fits (c .before .before .before)), put-length (c .before .before .before .before .before .before .loop .inv .1))
 
 add-i : tie.Need-add-i Inv-loop μ-loop
 add-i c = omega arith
@@ -54,15 +59,14 @@ loop-less c = omega arith
 
 loop-again : tie.Need-loop-again Inv-loop μ-loop
 loop-again c =
-    let a = c .before .before .before .before .before .before .before .before .before .args in
-    let l = c .before .before .before .before .before .loop in
-    let goes = marked (now (a .room)) in
-    let xs = numbers 4 (a .n) (drop (a .at) (now (a .src))) in
-    let many : length xs ≡ a .n = length-numbers 4 (a .n) (drop (a .at) (now (a .src))) in
-    let p = c .before .before .put-left-label in (
+    let a = c .before .before .before .before .before .before .before .before .before .before .args in
+    let l = c .before .before .before .before .before .before .loop in
+    let b = now (a .src) in
+    let goes = marked (now (a .room)) (a .n) in
+    let less : l .i < a .n = omega arith in (
       omega arith,
-      put-more (bytes 4) goes xs 0 (l .i) (omega arith) (now (a .out)) (a .first) (l .out) (l .to) _ _ (l .inv .1)
-          (put-as (ap (λ (v : ℕ). cond {A = List ℕ} (goes (l .i)) [] (bytes 4 v)) (sym (number-there 4 (a .n) (now (a .src)) (a .at) (l .i) (omega arith)))) (p .ensures)),
+      put-more (labels-grow goes b (a .from) (a .k) (a .n)) less (l .inv .1)
+          (put-unless b (a .from) (a .k + l .i) 1 _ (goes (l .i)) _ (span-one b (a .from) (a .k + l .i)) (c .before .before .before .before .if-stays .ensures .1 (a .n) less) (c .before .before .copy-numbers .ensures)),
     )
 
 same-length : tie.Need-same-length Inv-loop μ-loop
@@ -72,10 +76,8 @@ returns : tie.Need-returns Inv-loop μ-loop
 returns c =
     let a = c .before .before .before .before .before .args in
     let l = c .before .loop in
-    let goes = marked (now (a .room)) in
-    let xs = numbers 4 (a .n) (drop (a .at) (now (a .src))) in
-    let many : length xs ≡ a .n = length-numbers 4 (a .n) (drop (a .at) (now (a .src))) in
-    put-as (ap (λ (k : List ℕ). joined (bytes 4) (remaining goes 0 k)) (take-all (l .i) xs (omega arith)) ∙ sym (row-joined 4 (remaining goes 0 xs))) (l .inv .1)
+    subst (λ (i : ℕ). Put (now (a .out)) (a .to) (a .first) (remaining (marked (now (a .room)) (a .n)) 0 (span (now (a .src)) (a .from) (a .k) i)) (l .out) (l .j))
+    (le-antisymm (l .inv .0) (c .loop-test .left)) (l .inv .1)
 
 pub put-left-labels-spec : {M : Type 1} → statement M
 put-left-labels-spec =
@@ -84,9 +86,10 @@ put-left-labels-spec =
     Inv-loop
     μ-loop
     loop-holds
-    mul-put-left-label
-    add-put-left-label
-    put-left-label-requires
+    if-stays-requires
+    add-copy-numbers
+    copy-numbers-requires
+    add-j
     add-i
     loop-less
     loop-again

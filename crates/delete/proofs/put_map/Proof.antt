@@ -1,36 +1,41 @@
 -- `delete::put_map` meets its contract.
 -- Assumes nothing.
-use mathlib.Core.Path.{_≡_, refl, ap, _∙_}
-use Prim.Native.Nat.{ℕ, _≤_, _-_}
+use mathlib.Core.Bool.{cond}
+use mathlib.Core.List.{_∷_, []}
+use Prim.Native.Nat.{ℕ, _+_, _-_, _^_, _≤_, _<_}
 use native.Mathlib.Nat.{le-antisymm}
-use native.Mathlib.Omega.{arith}
-use lib.ListN.{length}
-use lib.Seq.{sets, length-sets}
+use mathlib.Core.Path.{_≡_, refl, ap, _∙_}
 use denote.Ref.{now}
 use Rattle.delete.specs.Marks.{marked, placesOf}
 use Rattle.graph.specs.Delete.{newId}
-use Rattle.le.specs.Le.{row}
+use Rattle.le.specs.Rows.{puts}
+use Rattle.write.specs.Write.{Put}
 use Rattle.graph.proofs.Kept.{new-id-le}
-use Rattle.delete.proofs.Moves.{new-id-next, map-more}
+use Rattle.le.proofs.Rows.{holds-less, holds-same}
+use Rattle.write.proofs.Results.{put-none}
+use Rattle.delete.proofs.Grows.{new-id-more, put-length, put-more, places-grow}
+use native.Mathlib.Omega.{arith}
 use Rattle.delete.proofs.put_map.Statement.{statement}
 use Rattle.delete.proofs.put_map.Tie as tie
 
 abbrev Inv-loop : tie.InvT-loop
-Inv-loop room n map₀ next₀ i₀ map next i = (i ≤ n) × (next ≡ newId (marked room) i) × (map ≡ sets map₀ 0 (row 2 (placesOf (marked room) i)))
+Inv-loop room n map₀ r next₀ i₀ map next i =
+    (i ≤ n) × (next ≡ newId (marked room n) i) × Put map₀ r 0 (placesOf (r .width) (marked room n) i) map i
 
 abbrev μ-loop : tie.MeasureT-loop
-μ-loop room n map₀ next₀ i₀ map next i = n - i
+μ-loop room n map₀ r next₀ i₀ map next i = n - i
 
 loop-holds : tie.Need-loop-holds Inv-loop μ-loop
-loop-holds c = (omega arith, refl, refl)
+loop-holds c = (omega arith, refl, put-none)
 
 put-place-requires : tie.Need-put-place-requires Inv-loop μ-loop
 put-place-requires c κs =
-    let a = c .before .before .before .before .before .args in
-    let l = c .before .before .loop in
-    let goes = marked (now (a .room)) in
-    let long : length (l .map) ≡ length (now (a .map)) = ap length (l .inv .2) ∙ length-sets (now (a .map)) 0 (row 2 (placesOf goes (l .i))) in
-    (omega arith, omega arith, omega (arith, l .inv .1, new-id-le goes (l .i)))
+    let s = c .before .before .before .before .before in
+    let l = c .before .before .loop in (
+      omega arith,
+      holds-same (holds-less (s .pre .2) (l .i + 1) (omega arith)) (l .map) (put-length (l .inv .2)),
+      omega (arith, l .inv .1, new-id-le (marked (now (s .args .room)) (s .args .n)) (l .i)),
+    )
 
 add-i : tie.Need-add-i Inv-loop μ-loop
 add-i c = omega arith
@@ -42,25 +47,25 @@ loop-again : tie.Need-loop-again Inv-loop μ-loop
 loop-again c =
     let a = c .before .before .before .before .before .before .before .before .args in
     let l = c .before .before .before .before .before .loop in
-    let goes = marked (now (a .room)) in
-    let p = c .before .before .put-place in (
+    let goes = marked (now (a .room)) (a .n) in
+    let less : l .i < a .n = omega arith in
+    let p = c .before .before .put-place .ensures (a .n) less in (
       omega arith,
-      new-id-next goes (l .i) (l .next) (p .result) (l .inv .1) (p .ensures .1),
-      map-more goes (l .i) (l .next) (now (a .map)) (l .map) _ (l .inv .1) (l .inv .2) (p .ensures .0),
+      omega (arith, p .1, l .inv .1, new-id-more goes (l .i)),
+      put-more (places-grow goes (a .r .width) (a .n)) less (l .inv .2) (record {
+        stored = p .0 ∙ ap (λ (v : ℕ). puts (l .map) (a .r) (l .i) (cond (goes (l .i)) (256 ^ a .r .width - 1) v ∷ [])) (l .inv .1);
+        next = refl;
+      }),
     )
 
 same-length : tie.Need-same-length Inv-loop μ-loop
-same-length c =
-    let a = c .before .before .before .before .args in
-    let l = c .before .loop in
-    ap length (l .inv .2) ∙ length-sets (now (a .map)) 0 (row 2 (placesOf (marked (now (a .room))) (l .i)))
+same-length c = put-length (c .before .loop .inv .2)
 
 returns : tie.Need-returns Inv-loop μ-loop
 returns c =
     let a = c .before .before .before .before .args in
     let l = c .before .loop in
-    let e = le-antisymm (l .inv .0) (c .loop-test .left) in
-    l .inv .2 ∙ ap (λ (n : ℕ). sets (now (a .map)) 0 (row 2 (placesOf (marked (now (a .room))) n))) e
+    l .inv .2 .stored ∙ ap (λ (i : ℕ). puts (now (a .map)) (a .r) 0 (placesOf (a .r .width) (marked (now (a .room)) (a .n)) i)) (le-antisymm (l .inv .0) (c .loop-test .left))
 
 pub put-map-spec : {M : Type 1} → statement M
 put-map-spec =

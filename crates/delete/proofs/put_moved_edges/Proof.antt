@@ -1,81 +1,72 @@
 -- `delete::put_moved_edges` meets its contract.
 -- Assumes nothing.
-use mathlib.Core.List.{List}
-use mathlib.Core.Path.{_≡_, sym, ap, subst}
-use Prim.Native.Nat.{ℕ, suc, _+_, _/_, _≤_, _<_, _-_}
-use native.Mathlib.Omega.{arith}
-use lib.ListN.{length, getD, take, drop}
-use lib.Seq.{take-all}
+use mathlib.Core.List.{List, map}
+use Prim.Native.Nat.{ℕ, _+_, _-_, _≤_}
+use mathlib.Core.Path.{_≡_, refl, sym, ap, _∙_, subst}
+use lib.ListN.{length, take}
 use denote.Ref.{now}
-use Rattle.delete.specs.Marks.{place, dropped, movedEdges}
-use Rattle.delete.specs.Writes.{EdgesAt, Put}
-use Rattle.graph.specs.Form.{edgeBytes}
-use Rattle.graph.specs.Graph.{Edge, form1}
+use Rattle.delete.specs.Marks.{marked}
+use Rattle.form.specs.Form.{bodyOf, edgeIn}
+use Rattle.form.specs.Stored.{graphOf}
+use Rattle.graph.specs.Delete.{renamedEdge}
+use Rattle.graph.specs.Form.{edgeRow, edgeStart}
+use Rattle.graph.specs.Graph.{Edge}
 use Rattle.graph.specs.Lists.{joined}
-use Rattle.le.specs.Le.{Below}
-use Rattle.le.proofs.Numbers.{below-front, below-back}
-use Rattle.delete.proofs.Additive.{edges-additive, write-more, write-fits}
-use Rattle.delete.proofs.Edges.{Step, step, counts-there, noEdge}
-use Rattle.delete.proofs.EdgesMoved.{edge-below, same-sources, same-targets, same-edge}
-use Rattle.delete.proofs.Writing.{put-none, put-as, put-length}
+use Rattle.le.specs.Rows.{Holds}
+use Rattle.le.specs.declared.Row.{Row}
+use Rattle.write.specs.Write.{Put}
+use Rattle.form.proofs.Stored.{stored-rows}
+use Rattle.le.proofs.Rows.{holds-less}
+use Rattle.write.proofs.Results.{put-none}
+use Rattle.delete.proofs.Edges.{Met, met, edge-held, all-edges, all-fits, edge-less, same-row}
+use Rattle.delete.proofs.Grows.{put-length, moved-grow, put-fits, put-more}
+use native.Mathlib.Omega.{arith}
 use Rattle.delete.proofs.put_moved_edges.Statement.{statement}
 use Rattle.delete.proofs.put_moved_edges.Tie as tie
 
 abbrev Inv-loop : tie.InvT-loop
-Inv-loop src start n map out₀ first at₀ to₀ i₀ out at to i =
-    (i ≤ n) × ((es : List Edge) → length es ≡ n → EdgesAt src start es
-    → EdgesAt src at (drop i es) × Put out₀ first (joined (edgeBytes form1) (movedEdges map (take i es))) out to)
+Inv-loop src z room table out₀ to body k₀ j₀ i₀ i-end out k j i =
+    (i ≤ i-end) × (k ≡ edgeStart (graphOf src .edges) i)
+    × Put out₀ to 0 (joined edgeRow (map (renamedEdge (marked room (z .nodes))) (take i (graphOf src .edges)))) out j
 
 abbrev μ-loop : tie.MeasureT-loop
-μ-loop src start n map out₀ first at₀ to₀ i₀ out at to i = n - i
+μ-loop src z room table out₀ to body k₀ j₀ i₀ i-end out k j i = i-end - i
+
+body-row-requires : tie.Need-body-row-requires Inv-loop μ-loop
+body-row-requires c κs = stored-rows (c .before .before .before .before .pre .0) .low
 
 loop-holds : tie.Need-loop-holds Inv-loop μ-loop
-loop-holds c = (omega arith, λ es m h. (h, put-none (now (c .before .before .before .args .out)) (c .before .before .before .args .first)))
+loop-holds c = (omega arith, refl, put-none)
 
-ports-at-requires : tie.Need-ports-at-requires Inv-loop μ-loop
-ports-at-requires c κs =
-    let s = c .before .before .before .before .before in
+edge-at-requires : tie.Need-edge-at-requires Inv-loop μ-loop
+edge-at-requires c κs =
     let l = c .before .loop in
-    let es = s .pre .0 in
-    counts-there (now (s .args .src)) (l .at) es (l .i) (omega arith) (l .inv .1 es (s .pre .1) (s .pre .2) .0)
+    edge-held (c .before .before .before .before .before .before .before .pre .0) (l .i) (l .k) (omega arith) (l .inv .1) _ (c .before .before .body-row .ensures)
 
--- the edge that is read
-edge : (c : tie.After-ports-at Inv-loop μ-loop) → Step (now (c .before .before .before .before .before .before .args .src)) (c .before .before .loop .at) (c .before .before .before .before .before .before .pre .0) (c .before .before .loop .i) (c .ports-at .result)
+-- the edge that is met
+edge : (c : tie.After-edge-at Inv-loop μ-loop) → Met (now (c .before .before .before .before .before .before .before .before .args .src)) (bodyOf (c .before .before .before .before .before .before .before .before .args .z)) (c .before .before .before .before .before .before .before .before .args .z) (c .before .before .loop .i) (c .before .before .loop .k) (c .edge-at .result)
 edge c =
-    let s = c .before .before .before .before .before .before in
     let l = c .before .before .loop in
-    let es = s .pre .0 in
-    step (now (s .args .src)) (l .at) es (l .i) (c .ports-at .result) (omega arith) (l .inv .1 es (s .pre .1) (s .pre .2) .0) (c .ports-at .ensures .0)
+    met (c .before .before .before .before .before .before .before .before .pre .0) (l .i) (l .k) (omega arith) (l .inv .1) _ refl (c .edge-at .result)
+    (c .edge-at .ensures ∙ ap (λ (r : Row). edgeIn (now (c .before .before .before .before .before .before .before .before .args .src)) r (l .k)) (c .before .before .before .body-row .ensures))
 
 put-moved-edge-requires : tie.Need-put-moved-edge-requires Inv-loop μ-loop
 put-moved-edge-requires c κs =
-    let s = c .before .before .before .before .before .before .before in
+    let s = c .before .before .before .before .before .before .before .before .before in
     let a = s .args in
     let l = c .before .before .before .loop in
-    let b = now (a .src) in
-    let table = now (a .map) in
-    let es = s .pre .0 in
-    let k = l .inv .1 es (s .pre .1) (s .pre .2) in
-    let less : l .i < length es = omega arith in
-    let e = getD es (l .i) noEdge in
-    let one = edge (c .before) in
-    let below = edge-below (length table / 2) es (l .i) (s .pre .3) less in
-    let bound : a .first + length (joined (edgeBytes form1) (movedEdges table es)) ≤ length (l .out) = omega (arith, s .pre .4, put-length (k .1)) in (
-      omega (arith, one .inside, c .before .ports-at .ensures .0),
-      subst (Below (length table / 2)) (sym (same-sources b (l .at) e (drop (suc (l .i)) es) (one .edge))) (below-front (length table / 2) (e .sources) (e .targets) below),
-      subst (Below (length table / 2)) (sym (same-targets b (l .at) e (drop (suc (l .i)) es) (one .edge))) (below-back (length table / 2) (e .sources) (e .targets) below),
-      subst (λ (x : List ℕ). l .to + length x ≤ length (l .out)) (sym (same-edge b (l .at) e (drop (suc (l .i)) es) (one .edge) table))
-          (write-fits (λ fs. joined (edgeBytes form1) (movedEdges table fs)) (edges-additive (dropped table) (place table)) es noEdge (l .i) less (now (a .out)) (a .first) (l .to) (length (l .out)) (k .1 .next) bound),
+    let m = edge (c .before) in
+    let es = graphOf (now (a .src)) .edges in
+    let goes = marked (now (a .room)) (a .z .nodes) in (
+      (s .pre .1, holds-less (m .held) _ (omega arith), m .low),
+      (
+        m .sources-known,
+        m .targets-known,
+        subst (λ (l : List ℕ). Holds (c .before .before .before .loop .out) (a .to) (c .before .before .before .loop .j + length l)) (sym (same-row m goes))
+            (put-fits (moved-grow goes edgeRow es) (edge-less (s .pre .0) (l .i) (omega arith)) (l .inv .2)
+            (all-fits (λ (es : List Edge). joined edgeRow (map (renamedEdge goes) es)) es (s .pre .2))),
+      ),
     )
-
-mul-at : tie.Need-mul-at Inv-loop μ-loop
-mul-at c = omega arith
-
-add-at : tie.Need-add-at Inv-loop μ-loop
-add-at c = omega arith
-
-add-at-2 : tie.Need-add-at-2 Inv-loop μ-loop
-add-at-2 c = omega (arith, edge (c .before .before .before .before) .inside)
 
 add-i : tie.Need-add-i Inv-loop μ-loop
 add-i c = omega arith
@@ -85,32 +76,27 @@ loop-less c = omega arith
 
 loop-again : tie.Need-loop-again Inv-loop μ-loop
 loop-again c =
-    let a = c .before .before .before .before .before .before .before .before .before .before .args in
+    let s = c .before .before .before .before .before .before .before .before .before .before .before .before in
+    let a = s .args in
     let l = c .before .before .before .before .before .before .loop in
-    let b = now (a .src) in
-    let table = now (a .map) in
-    let n = c .before .before .before .before .ports-at in (
+    let m = edge (c .before .before .before .before) in
+    let goes = marked (now (a .room)) (a .z .nodes) in
+    let p = c .before .before .put-moved-edge in (
       omega arith,
-      λ es m h.
-          let less : l .i < length es = omega arith in
-          let k = l .inv .1 es m h in
-          let one = step b (l .at) es (l .i) (n .result) less (k .0) (n .ensures .0) in (
-            one .after,
-            write-more (λ fs. joined (edgeBytes form1) (movedEdges table fs)) (edges-additive (dropped table) (place table)) es noEdge (l .i) less (now (a .out)) (a .first) (l .out) (l .to) _ _ (k .1)
-                (put-as (same-edge b (l .at) (getD es (l .i) noEdge) (drop (suc (l .i)) es) (one .edge) table) (c .before .before .put-moved-edge .ensures)),
-          ),
+      m .end,
+      put-more (moved-grow goes edgeRow (graphOf (now (a .src)) .edges)) (edge-less (s .pre .0) (l .i) (omega arith)) (l .inv .2)
+          (subst (λ (r : List ℕ). Put (l .out) (a .to) (l .j) r (p .last .1 .1 .1 .1 .1 .0) (p .result)) (same-row m goes) (p .ensures)),
     )
 
 same-length : tie.Need-same-length Inv-loop μ-loop
-same-length c =
-    let s = c .before .before .before .before .before in
-    put-length (c .before .loop .inv .1 (s .pre .0) (s .pre .1) (s .pre .2) .1)
+same-length c = put-length (c .before .loop .inv .2)
 
 returns : tie.Need-returns Inv-loop μ-loop
-returns c es m h =
-    let a = c .before .before .before .before .before .args in
+returns c =
+    let s = c .before .before .before .before .before .before .before in
     let l = c .before .loop in
-    put-as (ap (λ (k : List Edge). joined (edgeBytes form1) (movedEdges (now (a .map)) k)) (take-all (l .i) es (omega arith))) (l .inv .1 es m h .1)
+    subst (λ (es : List Edge). Put (now (s .args .out)) (s .args .to) 0 (joined edgeRow (map (renamedEdge (marked (now (s .args .room)) (s .args .z .nodes))) es)) (l .out) (l .j))
+    (all-edges (s .pre .0) (l .i) (omega arith)) (l .inv .2)
 
 pub put-moved-edges-spec : {M : Type 1} → statement M
 put-moved-edges-spec =
@@ -118,12 +104,10 @@ put-moved-edges-spec =
     (tie.spec
     Inv-loop
     μ-loop
+    body-row-requires
     loop-holds
-    ports-at-requires
+    edge-at-requires
     put-moved-edge-requires
-    mul-at
-    add-at
-    add-at-2
     add-i
     loop-less
     loop-again

@@ -1,147 +1,178 @@
 -- `delete::put_without_edges` meets its contract.
 -- Assumes nothing.
-use mathlib.Core.Path.{_≡_, sym, ap, _∙_, subst}
-use Prim.Native.Nat.{ℕ, _+_, _*_, _≤_}
-use native.Mathlib.Omega.{arith}
-use lib.ListN.{length, drop}
+use mathlib.Core.List.{List, _++_, map}
+use mathlib.Core.Path.{_≡_, refl, sym, ap, _∙_, subst}
+use Prim.Native.Nat.{ℕ, _+_, _*_}
+use native.Mathlib.Nat.{zero-add}
+use lib.ListN.{length}
 use denote.Ref.{now}
-use Rattle.delete.specs.Marks.{marked}
-use Rattle.delete.specs.Writes.{EdgesAt}
+use Rattle.delete.specs.Marks.{marked, unmarkedEdges}
+use Rattle.form.specs.Form.{labelsOf, bodyOf, listsFrom}
+use Rattle.form.specs.Stored.{graphOf}
 use Rattle.form.specs.declared.Sizes.{Sizes}
-use Rattle.graph.specs.Delete.{remaining}
-use Rattle.graph.specs.Form.{edgeBytes}
-use Rattle.graph.specs.Graph.{form1}
-use Rattle.graph.specs.Lists.{joined}
-use Rattle.le.specs.Le.{Below, row, numbers}
-use Rattle.le.proofs.Numbers.{below-each}
-use Rattle.delete.proofs.EdgesGone.{edges-long, edges-written}
-use Rattle.delete.proofs.Held.{Found, found, holds}
-use Rattle.delete.proofs.Staying.{remaining-fewer}
+use Rattle.graph.specs.Form.{labelRow, body, edgeRow}
+use Rattle.graph.specs.Graph.{Edge, Graph}
+use Rattle.graph.specs.Lists.{joined, flat}
+use Rattle.graph.specs.Versions.{fitting}
+use Rattle.le.specs.Rows.{Holds}
+use Rattle.write.specs.Write.{headed, Put}
+use Rattle.form.proofs.Stored.{stored-rows}
+use Rattle.le.proofs.Rows.{holds-less, holds-same, length-span}
+use Rattle.write.proofs.Results.{put-then, length-headed}
+use Rattle.delete.proofs.Grows.{put-length}
+use Rattle.delete.proofs.Parts.{at-row, copied, drawn-by, labels-room, body-room, left-labels, lists-there}
+use native.Mathlib.Omega.{arith}
 use Rattle.delete.proofs.put_without_edges.Statement.{statement}
 use Rattle.delete.proofs.put_without_edges.Tie as tie
 
-bytes : (c : tie.After-shared-slice-known) → Below 256 (now (c .before .args .src))
-bytes c = below-each 256 (now (c .before .args .src)) (λ i l. omega (arith, c .shared-slice-known .given i))
+-- the graph that is left, its parts, and room for them
+kept : tie.Start → Graph
+kept s = unmarkedEdges (now (s .args .room)) (s .args .z .edges) (graphOf (now (s .args .src)))
 
--- the form that was read
-form : (c : tie.After-shared-slice-known) → Found (now (c .before .args .src)) (c .before .args .z)
-form c = found (now (c .before .args .src)) (bytes c) (c .before .args .z) (c .before .pre .0 .0)
+edges-of : tie.Start → List ℕ
+edges-of s = joined edgeRow (kept s .edges)
 
--- all parts fit
-space : (c : tie.After-shared-slice-known)
-    → 15 + (c .before .args .z .nodes * 4 + (length (row 4 (remaining (marked (now (c .before .args .room))) 0 (numbers 4 (c .before .args .z .edges) (drop (15 + c .before .args .z .nodes * 4) (now (c .before .args .src))))))
-    + (length (joined (edgeBytes form1) (remaining (marked (now (c .before .args .room))) 0 (form c .graph .edges))) + (c .before .args .z .sources + (c .before .args .z .targets + 2 * c .before .args .z .pairs)) * 2)))
-    ≤ length (now (c .before .args .out))
-space c =
-    let a = c .before .args in
-    let f = form c in
-    subst (λ (n : ℕ). n ≤ length (now (a .out))) (edges-long (now (a .src)) (a .z) (f .graph) (f .held) (now (a .room))) (c .before .pre .1 (f .graph) (f .read-as) .1)
+lists-of : tie.Start → List ℕ
+lists-of s = kept s .sources ++ (kept s .targets ++ flat (kept s .pairs))
 
--- the buffer keeps its length
-wide : (c : tie.After-put-left-labels) → length (c .put-left-labels .last .1 .1 .1 .1 .0) ≡ length (now (c .before .before .before .before .before .before .before .before .before .before .before .before .before .before .before .args .out))
-wide c = c .put-left-labels .kept .1 .1 .1 .1 .0 ∙ c .before .before .before .before .copy .kept .0 ∙ c .before .before .before .before .before .before .before .before .before .before .put-header .kept .0
+labels-there : (s : tie.Start) → Holds (now (s .args .out)) (labelsOf (s .args .y)) (length (graphOf (now (s .args .src)) .labels) + length (map (λ (e : Edge). e .label) (kept s .edges)))
+unfolding kept
+labels-there s = labels-room (s .pre .0 .2) (fitting (kept s)) (kept s) (s .pre .1)
 
-wide-2 : (c : tie.After-put-left-edges) → length (c .put-left-edges .last .1 .1 .1 .1 .0) ≡ length (now (c .before .before .before .before .before .before .before .before .before .before .before .before .before .before .before .before .before .before .before .before .args .out))
-wide-2 c = c .put-left-edges .kept .1 .1 .1 .1 .0 ∙ wide (c .before .before .before .before .before)
+body-there : (s : tie.Start) → Holds (now (s .args .out)) (bodyOf (s .args .y)) (length (edges-of s) + length (lists-of s))
+unfolding kept edges-of lists-of
+body-there s = body-room (s .pre .0 .2) (fitting (kept s)) (kept s) (s .pre .1)
+
+nodes : (s : tie.Start) → s .args .z .nodes ≡ length (graphOf (now (s .args .src)) .labels)
+nodes s = ap (λ (y : Sizes). y .nodes) (s .pre .0 .0 .sizes)
+
+lists-long : (s : tie.Start) → length (lists-of s) ≡ s .args .z .sources + (s .args .z .targets + 2 * s .args .z .pairs)
+unfolding kept lists-of
+lists-long s = sym (ap length (lists-there (s .pre .0 .0))) ∙ length-span (now (s .args .src)) (bodyOf (s .args .z)) (listsFrom (s .args .z)) _
+
+long : (c : tie.After-put-header) → length (c .put-header .last .0) ≡ length (now (c .before .before .before .before .before .args .out))
+long c = ap length (c .put-header .ensures) ∙ length-headed (now (c .before .before .before .before .before .args .out)) (c .before .before .before .before .before .args .y)
 
 put-header-requires : tie.Need-put-header-requires
-put-header-requires c κs =
-    let s = c .before .before .before .before in
-    let f = form (c .before .before .before) in
-    let h = f .held .limits in
-    let few : s .args .y .edges ≤ s .args .z .edges =
-    omega (arith, ap (λ (y : Sizes). y .edges) (s .pre .1 (f .graph) (f .read-as) .0), remaining-fewer (marked (now (s .args .room))) 0 (f .graph .edges), f .held .edge-count) in
-    (omega (arith, space (c .before .before .before)), omega arith, omega arith, omega arith, omega arith, omega arith)
+put-header-requires c κs = let r = c .before .before .before .before .pre .0 .2 in (r .low, r .fits, r .header)
 
-mul-labels : tie.Need-mul-labels
-mul-labels c = let h = form (c .before .before .before .before .before .before .before) .held .limits in omega arith
+label-row-requires : tie.Need-label-row-requires
+label-row-requires c κs = stored-rows (c .before .before .before .before .before .before .before .pre .0 .0) .low
 
-add-labels : tie.Need-add-labels
-add-labels c = let h = form (c .before .before .before .before .before .before .before) .held .limits in omega arith
+label-row-requires-2 : tie.Need-label-row-requires-2
+label-row-requires-2 c κs = c .before .before .before .before .before .before .before .before .pre .0 .2 .low
 
-mul-copy : tie.Need-mul-copy
-mul-copy c = let h = form (c .before .before .before .before .before .before .before .before .before) .held .limits in omega arith
+copy-numbers-requires : tie.Need-copy-numbers-requires
+copy-numbers-requires c κs =
+    let s = c .before .before .before .before .before .before .before .before .before .before in
+    let rows = stored-rows (s .pre .0 .0) in (
+      at-row (c .before .label-row2 .ensures) (holds-same (holds-less (labels-there s) _ (omega (arith, nodes s))) _ (long (c .before .before .before .before .before))),
+      at-row (c .before .before .label-row .ensures) (holds-less (rows .labels-held) _ (omega arith)),
+    )
 
-copy-requires : tie.Need-copy-requires
-copy-requires c κs =
-    let f = form (c .before .before .before .before .before .before .before .before .before) in
-    (omega (arith, space (c .before .before .before .before .before .before .before .before .before)), omega (arith, f .held .sections .long))
+-- the labels of the nodes, and of all
+node-labels : (c : tie.After-copy-numbers) → Put (headed (now (c .before .before .before .before .before .before .before .before .before .before .before .args .out)) (c .before .before .before .before .before .before .before .before .before .before .before .args .y)) (c .before .before .label-row2 .result) 0 (graphOf (now (c .before .before .before .before .before .before .before .before .before .before .before .args .src)) .labels) (c .copy-numbers .last .0) (c .before .before .before .before .before .before .before .before .before .before .before .args .z .nodes)
+node-labels c =
+    let s = c .before .before .before .before .before .before .before .before .before .before .before in
+    subst (λ (o : List ℕ). Put o (c .before .before .label-row2 .result) 0 (graphOf (now (s .args .src)) .labels) (c .copy-numbers .last .0) (s .args .z .nodes)) (c .before .before .before .before .before .before .put-header .ensures)
+    (copied (now (s .args .src)) 0 (s .args .z .nodes) (c .copy-numbers .ensures) (c .before .before .before .label-row .ensures) (stored-rows (s .pre .0 .0) .labels) (sym (zero-add _)))
 
 put-left-labels-requires : tie.Need-put-left-labels-requires
+unfolding kept
 put-left-labels-requires c κs =
-    let f = form (c .before .before .before .before .before .before .before .before .before .before .before .before .before) in
-    (omega (arith, f .held .sections .long), c .before .before .before .before .before .before .before .before .before .before .before .before .before .before .pre .0 .1, omega (arith, space (c .before .before .before .before .before .before .before .before .before .before .before .before .before)))
+    let s = c .before .before .before .before .before .before .before .before .before .before .before .before .before .before in
+    let rows = stored-rows (s .pre .0 .0) in
+    let left = left-labels (s .pre .0 .0) (marked (now (s .args .room)) (s .args .z .edges)) _ (c .before .before .before .before .before .before .label-row .ensures) in (
+      at-row (c .before .before .before .before .before .before .label-row .ensures) (rows .labels-held),
+      s .pre .0 .1,
+      at-row (c .before .before .before .before .before .label-row2 .ensures)
+          (holds-same (holds-less (labels-there s) _ (omega (arith, nodes s, ap length left))) _
+          (put-length (node-labels (c .before .before .before)) ∙ length-headed (now (s .args .out)) (s .args .y))),
+    )
 
-edges-at-requires : tie.Need-edges-at-requires
-edges-at-requires c κs = let h = form (c .before .before .before .before .before .before .before .before .before .before .before .before .before .before .before .before) .held .limits in (h .nodes, h .edges)
+all-labels : (c : tie.After-put-left-labels) → Put (headed (now (c .before .before .before .before .before .before .before .before .before .before .before .before .before .before .before .args .out)) (c .before .before .before .before .before .before .before .before .before .before .before .before .before .before .before .args .y)) (c .before .before .before .before .before .before .label-row2 .result) 0 (labelRow (kept (c .before .before .before .before .before .before .before .before .before .before .before .before .before .before .before))) (c .put-left-labels .last .1 .1 .1 .1 .1 .0) (c .put-left-labels .result)
+unfolding kept
+all-labels c =
+    let s = c .before .before .before .before .before .before .before .before .before .before .before .before .before .before .before in
+    put-then (node-labels (c .before .before .before .before))
+    (subst (λ (l : List ℕ). Put (c .before .before .before .before .copy-numbers .last .0) (c .before .before .before .before .before .before .label-row2 .result) (s .args .z .nodes) l (c .put-left-labels .last .1 .1 .1 .1 .1 .0) (c .put-left-labels .result))
+    (left-labels (s .pre .0 .0) (marked (now (s .args .room)) (s .args .z .edges)) _ (c .before .before .before .before .before .before .before .label-row .ensures)) (c .put-left-labels .ensures))
+
+body-row-requires : tie.Need-body-row-requires
+body-row-requires c κs = c .before .before .before .before .before .before .before .before .before .before .before .before .before .before .before .before .before .pre .0 .2 .low
 
 put-left-edges-requires : tie.Need-put-left-edges-requires
+unfolding kept edges-of lists-of
 put-left-edges-requires c κs =
-    let s = c .before .before .before .before .before .before .before .before .before .before .before .before .before .before .before .before .before .before .before in
-    let f = form (c .before .before .before .before .before .before .before .before .before .before .before .before .before .before .before .before .before .before) in (
+    let s = c .before .before .before .before .before .before .before .before .before .before .before .before .before .before .before .before .before .before .before in (
+      s .pre .0 .0,
       s .pre .0 .1,
-      (
-        f .graph .edges,
-        f .held .edge-count,
-        subst (λ (n : ℕ). EdgesAt (now (s .args .src)) n (f .graph .edges)) (sym (c .before .edges-at .ensures)) (f .held .edges),
-        omega (arith, space (c .before .before .before .before .before .before .before .before .before .before .before .before .before .before .before .before .before .before), c .before .before .before .before .put-left-labels .ensures .next, wide (c .before .before .before .before)),
-      ),
+      at-row (c .before .body-row .ensures)
+          (holds-same (holds-less (body-there s) _ (omega arith)) _ (put-length (all-labels (c .before .before .before .before)) ∙ length-headed (now (s .args .out)) (s .args .y))),
     )
 
-lists-at-requires : tie.Need-lists-at-requires
-lists-at-requires c κs = let h = form (c .before .before .before .before .before .before .before .before .before .before .before .before .before .before .before .before .before .before .before .before .before) .held .limits in (h .nodes, h .edges, h .ports)
+mul-n : tie.Need-mul-n
+mul-n c = let low = stored-rows (c .before .before .before .before .before .before .before .before .before .before .before .before .before .before .before .before .before .before .before .before .before .before .before .pre .0 .0) .low in omega arith
 
-mul-copy-2 : tie.Need-mul-copy-2
-mul-copy-2 c = let h = form (c .before .before .before .before .before .before .before .before .before .before .before .before .before .before .before .before .before .before .before .before .before .before .before .before) .held .limits in omega arith
+add-n : tie.Need-add-n
+add-n c = let low = stored-rows (c .before .before .before .before .before .before .before .before .before .before .before .before .before .before .before .before .before .before .before .before .before .before .before .before .pre .0 .0) .low in omega arith
 
-add-copy : tie.Need-add-copy
-add-copy c = let h = form (c .before .before .before .before .before .before .before .before .before .before .before .before .before .before .before .before .before .before .before .before .before .before .before .before .before) .held .limits in omega arith
+add-n-2 : tie.Need-add-n-2
+add-n-2 c = let low = stored-rows (c .before .before .before .before .before .before .before .before .before .before .before .before .before .before .before .before .before .before .before .before .before .before .before .before .before .pre .0 .0) .low in omega arith
 
-add-copy-2 : tie.Need-add-copy-2
-add-copy-2 c = let h = form (c .before .before .before .before .before .before .before .before .before .before .before .before .before .before .before .before .before .before .before .before .before .before .before .before .before .before) .held .limits in omega arith
+body-row-requires-2 : tie.Need-body-row-requires-2
+body-row-requires-2 c κs = stored-rows (c .before .before .before .before .before .before .before .before .before .before .before .before .before .before .before .before .before .before .before .before .before .before .before .before .before .before .pre .0 .0) .low
 
-mul-copy-3 : tie.Need-mul-copy-3
-mul-copy-3 c = let h = form (c .before .before .before .before .before .before .before .before .before .before .before .before .before .before .before .before .before .before .before .before .before .before .before .before .before .before) .held .limits in omega arith
+mul-copy-numbers : tie.Need-mul-copy-numbers
+mul-copy-numbers c = let low = stored-rows (c .before .before .before .before .before .before .before .before .before .before .before .before .before .before .before .before .before .before .before .before .before .before .before .before .before .before .before .before .pre .0 .0) .low in omega arith
 
-copy-requires-2 : tie.Need-copy-requires-2
-copy-requires-2 c κs =
-    let s = c .before .before .before .before .before .before .before .before .before .before .before .before .before .before .before .before .before .before .before .before .before .before .before .before .before .before .before in
-    let f = form (c .before .before .before .before .before .before .before .before .before .before .before .before .before .before .before .before .before .before .before .before .before .before .before .before .before .before) in
-    let p = c .before .before .before .before .before .before .before .put-left-edges .ensures (f .graph .edges) (f .held .edge-count) (subst (λ (n : ℕ). EdgesAt (now (s .args .src)) n (f .graph .edges)) (sym (c .before .before .before .before .before .before .before .before .before .edges-at .ensures)) (f .held .edges)) in (
-      omega (arith, space (c .before .before .before .before .before .before .before .before .before .before .before .before .before .before .before .before .before .before .before .before .before .before .before .before .before .before), c .before .before .before .before .before .before .before .before .before .before .before .before .put-left-labels .ensures .next, p .next, wide-2 (c .before .before .before .before .before .before .before)),
-      omega (arith, f .held .sections .long, c .before .before .before .before .lists-at .ensures),
+add-copy-numbers : tie.Need-add-copy-numbers
+add-copy-numbers c = let low = stored-rows (c .before .before .before .before .before .before .before .before .before .before .before .before .before .before .before .before .before .before .before .before .before .before .before .before .before .before .before .before .before .pre .0 .0) .low in omega arith
+
+copy-numbers-requires-2 : tie.Need-copy-numbers-requires-2
+unfolding kept edges-of
+copy-numbers-requires-2 c κs =
+    let s = c .before .before .before .before .before .before .before .before .before .before .before .before .before .before .before .before .before .before .before .before .before .before .before .before .before .before .before .before .before in
+    let rows = stored-rows (s .pre .0 .0) in
+    let p = c .before .before .before .before .before .before .before .before .before .put-left-edges .ensures in (
+      at-row (c .before .before .before .before .before .before .before .before .before .before .before .body-row .ensures)
+          (holds-same (holds-less (body-there s) _ (omega (arith, p .next, lists-long s))) _
+          (put-length p ∙ put-length (all-labels (c .before .before .before .before .before .before .before .before .before .before .before .before .before .before)) ∙ length-headed (now (s .args .out)) (s .args .y))),
+      at-row (c .before .before .body-row2 .ensures) (rows .body-held),
     )
+
+-- all counts and ids
+written : (c : tie.After-slice-known6) → Put (c .before .before .before .before .before .before .before .before .before .before .before .before .before .before .before .before .before .put-left-labels .last .1 .1 .1 .1 .1 .0) (c .before .before .before .before .before .before .before .before .before .before .before .before .before .before .body-row .result) 0 (body (kept (c .before .before .before .before .before .before .before .before .before .before .before .before .before .before .before .before .before .before .before .before .before .before .before .before .before .before .before .before .before .before .before .before))) (c .before .before .copy-numbers2 .last .0) (c .before .before .before .before .before .before .before .before .before .before .before .before .put-left-edges .result + (c .before .before .before .before .before .before .before .before .before .before .before .before .before .before .before .before .before .before .before .before .before .before .before .before .before .before .before .before .before .before .before .before .args .z .sources + (c .before .before .before .before .before .before .before .before .before .before .before .before .before .before .before .before .before .before .before .before .before .before .before .before .before .before .before .before .before .before .before .before .args .z .targets + 2 * c .before .before .before .before .before .before .before .before .before .before .before .before .before .before .before .before .before .before .before .before .before .before .before .before .before .before .before .before .before .before .before .before .args .z .pairs)))
+unfolding kept
+written c = put-then (c .before .before .before .before .before .before .before .before .before .before .before .before .put-left-edges .ensures) (copied (now (c .before .before .before .before .before .before .before .before .before .before .before .before .before .before .before .before .before .before .before .before .before .before .before .before .before .before .before .before .before .before .before .before .args .src)) (listsFrom (c .before .before .before .before .before .before .before .before .before .before .before .before .before .before .before .before .before .before .before .before .before .before .before .before .before .before .before .before .before .before .before .before .args .z)) _ (c .before .before .copy-numbers2 .ensures) (c .before .before .before .before .before .body-row2 .ensures) (lists-there (c .before .before .before .before .before .before .before .before .before .before .before .before .before .before .before .before .before .before .before .before .before .before .before .before .before .before .before .before .before .before .before .before .pre .0 .0)) refl)
 
 same-length : tie.Need-same-length
-same-length c = c .before .before .copy2 .kept .0 ∙ wide-2 (c .before .before .before .before .before .before .before .before .before .before)
+same-length c =
+    let s = c .before .before .before .before .before .before .before .before .before .before .before .before .before .before .before .before .before .before .before .before .before .before .before .before .before .before .before .before .before .before .before .before in
+    put-length (written c) ∙ put-length (all-labels (c .before .before .before .before .before .before .before .before .before .before .before .before .before .before .before .before .before)) ∙ length-headed (now (s .args .out)) (s .args .y)
 
 returns : tie.Need-returns
-returns c g p =
-    let s = c .before .before .before .before .before .before .before .before .before .before .before .before .before .before .before .before .before .before .before .before .before .before .before .before .before .before .before .before .before .before in
-    let b = now (s .args .src) in
-    let h = holds b (bytes (c .before .before .before .before .before .before .before .before .before .before .before .before .before .before .before .before .before .before .before .before .before .before .before .before .before .before .before .before .before)) (s .args .z) (s .pre .0 .0) g p in
-    let e = c .before .before .before .before .before .before .before .before .before .before .put-left-edges .ensures (g .edges) (h .edge-count) (subst (λ (n : ℕ). EdgesAt b n (g .edges)) (sym (c .before .before .before .before .before .before .before .before .before .before .before .before .edges-at .ensures)) (h .edges)) in
-    edges-written b (s .args .z) g h (now (s .args .room)) (s .args .y) (s .pre .1 g p .0) (now (s .args .out)) _ _ _ _ _ _ _ _ (s .pre .1 g p .1) (c .before .before .before .before .before .before .before .lists-at .ensures)
-    (c .before .before .before .before .before .before .before .before .before .before .before .before .before .before .before .before .before .before .before .before .before .before .before .before .before .put-header .ensures) (c .before .before .before .before .before .before .before .before .before .before .before .before .before .before .before .before .before .before .before .copy .ensures) (c .before .before .before .before .before .before .before .before .before .before .before .before .before .before .before .put-left-labels .ensures) e
-    (c .before .before .copy2 .ensures)
+unfolding kept
+returns c =
+    drawn-by (now (c .before .before .before .before .before .before .before .before .before .before .before .before .before .before .before .before .before .before .before .before .before .before .before .before .before .before .before .before .before .before .before .before .args .out)) (c .before .before .before .before .before .before .before .before .before .before .before .before .before .before .before .before .before .before .before .before .before .before .before .before .before .before .before .before .before .before .before .before .args .y) (c .before .before .before .before .before .before .before .before .before .before .before .before .before .before .before .before .before .before .before .before .before .before .before .label-row2 .ensures) (c .before .before .before .before .before .before .before .before .before .before .before .before .before .before .body-row .ensures) (all-labels (c .before .before .before .before .before .before .before .before .before .before .before .before .before .before .before .before .before)) (written c)
 
 pub put-without-edges-spec : {M : Type 1} → statement M
 put-without-edges-spec =
     tie.close
     (tie.spec
     put-header-requires
-    mul-labels
-    add-labels
-    mul-copy
-    copy-requires
+    label-row-requires
+    label-row-requires-2
+    copy-numbers-requires
     put-left-labels-requires
-    edges-at-requires
+    body-row-requires
     put-left-edges-requires
-    lists-at-requires
-    mul-copy-2
-    add-copy
-    add-copy-2
-    mul-copy-3
-    copy-requires-2
+    mul-n
+    add-n
+    add-n-2
+    body-row-requires-2
+    mul-copy-numbers
+    add-copy-numbers
+    copy-numbers-requires-2
     same-length
     returns)

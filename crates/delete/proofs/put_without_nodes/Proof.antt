@@ -1,216 +1,195 @@
 -- `delete::put_without_nodes` meets its contract.
 -- Assumes nothing.
-use mathlib.Core.List.{_++_}
-use mathlib.Core.Path.{_≡_, sym, ap, _∙_, subst}
-use Prim.Native.Nat.{ℕ, _+_, _*_, _/_, _≤_}
-use native.Mathlib.Omega.{arith}
-use lib.ListN.{length, drop}
+use mathlib.Core.Bool.{Bool}
+use mathlib.Core.List.{List, _++_, map, append-assoc}
+use mathlib.Core.Path.{_≡_, refl, sym, ap, _∙_, subst}
+use Prim.Native.Nat.{ℕ, _+_}
+use lib.ListN.{length, length-append}
 use denote.Ref.{now}
-use Rattle.delete.specs.Marks.{marked, place, dropped, moved, movedEdges, movedPairs}
-use Rattle.delete.specs.Writes.{EdgesAt}
-use Rattle.form.specs.Form.{listsAt}
-use Rattle.graph.specs.Delete.{remaining, newId}
-use Rattle.graph.specs.Form.{edgeBytes}
-use Rattle.graph.specs.Graph.{edgeEntries, form1}
-use Rattle.graph.specs.Lists.{joined, flat, paired}
-use Rattle.le.specs.Le.{Below, row, numbers}
-use Rattle.le.proofs.Numbers.{below-each, below-widen, below-append, length-row, length-numbers}
-use Rattle.delete.proofs.Agree.{Agree, table-agrees}
-use Rattle.delete.proofs.Held.{Found, found, holds}
-use Rattle.delete.proofs.NodesGone.{fewer, ids-below, both-read, ends-read, nodes-long, nodes-written}
-use Rattle.delete.proofs.Staying.{remaining-fewer}
+use Rattle.delete.specs.Marks.{marked}
+use Rattle.form.specs.Form.{labelsOf, bodyOf, listsFrom}
+use Rattle.form.specs.Stored.{graphOf}
+use Rattle.graph.specs.Delete.{remaining, renamed, withoutNodes}
+use Rattle.graph.specs.Form.{labelRow, body, edgeRow}
+use Rattle.graph.specs.Graph.{Edge, Graph}
+use Rattle.graph.specs.Lists.{joined, flat}
+use Rattle.graph.specs.Versions.{fitting}
+use Rattle.le.specs.Rows.{Holds, span, puts}
+use Rattle.write.specs.Write.{headed, Put}
+use Rattle.form.proofs.Stored.{stored-rows, stored-known}
+use Rattle.le.proofs.Numbers.{below-append}
+use Rattle.le.proofs.Rows.{holds-less, holds-same, length-span}
+use Rattle.write.proofs.Results.{put-then, length-headed}
+use Rattle.delete.proofs.Grows.{put-length}
+use Rattle.delete.proofs.Parts.{at-row, at-span, span-known, copied, drawn-by, labels-room, body-room, edge-labels-kept, ids-there, ids-moved, pairs-there, pairs-moved}
+use native.Mathlib.Omega.{arith}
 use Rattle.delete.proofs.put_without_nodes.Statement.{statement}
 use Rattle.delete.proofs.put_without_nodes.Tie as tie
 
-bytes : (c : tie.After-shared-slice-known) → Below 256 (now (c .before .args .src))
-bytes c = below-each 256 (now (c .before .args .src)) (λ i l. omega (arith, c .shared-slice-known .given i))
+-- the graph that is left, and room for its parts
+abbrev goes : tie.Start → ℕ → Bool
+goes s = marked (now (s .args .room)) (s .args .z .nodes)
 
--- the form that was read
-form : (c : tie.After-shared-slice-known) → Found (now (c .before .args .src)) (c .before .args .z)
-form c = found (now (c .before .args .src)) (bytes c) (c .before .args .z) (c .before .pre .0 .0)
+kept : tie.Start → Graph
+kept s = withoutNodes (goes s) (graphOf (now (s .args .src)))
 
--- the map says what the marks say
-agree : (c : tie.After-shared-slice-known) → Agree (c .before .args .z .nodes) (dropped (now (c .before .args .map))) (marked (now (c .before .args .room))) (place (now (c .before .args .map))) (newId (marked (now (c .before .args .room))))
-agree c = table-agrees (c .before .args .z .nodes) (form c .held .limits .nodes) (now (c .before .args .map)) (marked (now (c .before .args .room))) (c .before .pre .1 .0)
+labels-there : (s : tie.Start) → Holds (now (s .args .out)) (labelsOf (s .args .y)) (length (kept s .labels) + length (map (λ (e : Edge). e .label) (kept s .edges)))
+unfolding kept
+labels-there s = labels-room (s .pre .0 .2) (fitting (kept s)) (kept s) (s .pre .1)
 
--- all parts fit
-space : (c : tie.After-shared-slice-known)
-    → 15 + (length (row 4 (remaining (marked (now (c .before .args .room))) 0 (numbers 4 (c .before .args .z .nodes) (drop 15 (now (c .before .args .src)))))) + (c .before .args .z .edges * 4 + (length (joined (edgeBytes form1) (movedEdges (now (c .before .args .map)) (form c .graph .edges)))
-    + (length (row 2 (moved (now (c .before .args .map)) (numbers 2 (c .before .args .z .sources + c .before .args .z .targets) (drop (listsAt (c .before .args .z .nodes) (c .before .args .z .edges) (c .before .args .z .ports)) (now (c .before .args .src))))))
-    + length (row 2 (flat (movedPairs (now (c .before .args .map)) (paired (numbers 2 (2 * c .before .args .z .pairs) (drop (listsAt (c .before .args .z .nodes) (c .before .args .z .edges) (c .before .args .z .ports) + (c .before .args .z .sources + c .before .args .z .targets) * 2) (now (c .before .args .src))))))))))))
-    ≤ length (now (c .before .args .out))
-space c =
-    let a = c .before .args in
-    let f = form c in
-    subst (λ (n : ℕ). n ≤ length (now (a .out))) (nodes-long (now (a .src)) (a .z) (f .graph) (f .held) (marked (now (a .room))) (now (a .map)) (agree c)) (c .before .pre .1 .1 (f .graph) (f .read-as) .1)
+body-there : (s : tie.Start) → Holds (now (s .args .out)) (bodyOf (s .args .y)) (length (joined edgeRow (kept s .edges)) + length (kept s .sources ++ (kept s .targets ++ flat (kept s .pairs))))
+unfolding kept
+body-there s = body-room (s .pre .0 .2) (fitting (kept s)) (kept s) (s .pre .1)
 
--- the buffer keeps its length
-wide-2 : (c : tie.After-put-left-labels) → length (c .put-left-labels .last .1 .1 .1 .1 .0) ≡ length (now (c .before .before .before .before .before .before .before .before .before .before .args .out))
-wide-2 c = c .put-left-labels .kept .1 .1 .1 .1 .0 ∙ c .before .before .before .before .put-header .kept .0
+edge-count : (s : tie.Start) → s .args .z .edges ≡ length (map (λ (e : Edge). e .label) (kept s .edges))
+unfolding kept
+edge-count s = sym (length-span _ (labelsOf (s .args .z)) (s .args .z .nodes) (s .args .z .edges)) ∙ ap length (edge-labels-kept (s .pre .0 .0) (goes s))
 
-wide-3 : (c : tie.After-copy) → length (c .copy .last .0) ≡ length (now (c .before .before .before .before .before .before .before .before .before .before .before .before .before .before .before .before .args .out))
-wide-3 c = c .copy .kept .0 ∙ wide-2 (c .before .before .before .before .before .before)
-
-wide-4 : (c : tie.After-put-moved-edges) → length (c .put-moved-edges .last .1 .1 .1 .1 .0) ≡ length (now (c .before .before .before .before .before .before .before .before .before .before .before .before .before .before .before .before .before .before .before .before .before .before .before .before .args .out))
-wide-4 c = c .put-moved-edges .kept .1 .1 .1 .1 .0 ∙ wide-3 (c .before .before .before .before .before .before .before .before)
-
-wide-5 : (c : tie.After-put-moved-ids) → length (c .put-moved-ids .last .1 .1 .1 .1 .0) ≡ length (now (c .before .before .before .before .before .before .before .before .before .before .before .before .before .before .before .before .before .before .before .before .before .before .before .before .before .before .before .before .args .out))
-wide-5 c = c .put-moved-ids .kept .1 .1 .1 .1 .0 ∙ wide-4 (c .before .before .before .before)
-
-wide-6 : (c : tie.After-put-moved-pairs) → length (c .put-moved-pairs .last .1 .1 .1 .1 .0) ≡ length (now (c .before .before .before .before .before .before .before .before .before .before .before .before .before .before .before .before .before .before .before .before .before .before .before .before .before .before .before .before .before .before .before .before .args .out))
-wide-6 c = c .put-moved-pairs .kept .1 .1 .1 .1 .0 ∙ wide-5 (c .before .before .before .before)
+ids-long : (s : tie.Start) → length (kept s .sources ++ (kept s .targets ++ flat (kept s .pairs)))
+    ≡ length (renamed (goes s) (span (now (s .args .src)) (bodyOf (s .args .z)) (listsFrom (s .args .z)) (s .args .z .sources + s .args .z .targets))) + length (flat (kept s .pairs))
+unfolding kept
+ids-long s =
+    ap length (sym (append-assoc (kept s .sources) (kept s .targets) (flat (kept s .pairs)))) ∙ length-append (kept s .sources ++ kept s .targets) (flat (kept s .pairs))
+    ∙ ap (λ (l : List ℕ). length l + length (flat (kept s .pairs))) (sym (ids-moved (s .pre .0 .0) (goes s)))
 
 put-header-requires : tie.Need-put-header-requires
-put-header-requires c κs =
-    let s = c .before .before .before .before .before in
-    let f = form (c .before .before .before .before) in
-    let h = f .held .limits in
-    let goes = marked (now (s .args .room)) in
-    let y = s .pre .1 .1 (f .graph) (f .read-as) .0 in
-    let few = fewer goes (now (s .args .src)) (s .args .z) (f .graph) (f .held) (s .args .y) y in
-    (omega (arith, space (c .before .before .before .before)), omega (arith, few .nodes), omega arith, omega (arith, few .sources), omega (arith, few .targets), omega (arith, few .pairs))
+put-header-requires c κs = let r = c .before .before .before .before .before .pre .0 .2 in (r .low, r .fits, r .header)
+
+label-row-requires : tie.Need-label-row-requires
+label-row-requires c κs = stored-rows (c .before .before .before .before .before .before .before .before .pre .0 .0) .low
+
+label-row-requires-2 : tie.Need-label-row-requires-2
+label-row-requires-2 c κs = c .before .before .before .before .before .before .before .before .before .pre .0 .2 .low
 
 put-left-labels-requires : tie.Need-put-left-labels-requires
+unfolding kept
 put-left-labels-requires c κs =
-    let f = form (c .before .before .before .before .before .before .before .before) in
-    (omega (arith, f .held .sections .long), c .before .before .before .before .before .before .before .before .before .pre .0 .1, omega (arith, space (c .before .before .before .before .before .before .before .before), c .before .before .before .put-header .kept .0))
-
-mul-copy : tie.Need-mul-copy
-mul-copy c = let h = form (c .before .before .before .before .before .before .before .before .before .before .before .before .before) .held .limits in omega arith
-
-add-copy : tie.Need-add-copy
-add-copy c = let h = form (c .before .before .before .before .before .before .before .before .before .before .before .before .before) .held .limits in omega arith
-
-mul-copy-2 : tie.Need-mul-copy-2
-mul-copy-2 c = let h = form (c .before .before .before .before .before .before .before .before .before .before .before .before .before .before) .held .limits in omega arith
-
-copy-requires : tie.Need-copy-requires
-copy-requires c κs =
-    let f = form (c .before .before .before .before .before .before .before .before .before .before .before .before .before .before) in
-    (omega (arith, space (c .before .before .before .before .before .before .before .before .before .before .before .before .before .before), c .before .before .before .before .before .put-left-labels .ensures .next, wide-2 (c .before .before .before .before .before)), omega (arith, f .held .sections .long))
-
-edges-at-requires : tie.Need-edges-at-requires
-edges-at-requires c κs = let h = form (c .before .before .before .before .before .before .before .before .before .before .before .before .before .before .before .before .before) .held .limits in (h .nodes, h .edges)
-
-lists-at-requires : tie.Need-lists-at-requires
-lists-at-requires c κs = let h = form (c .before .before .before .before .before .before .before .before .before .before .before .before .before .before .before .before .before .before) .held .limits in (h .nodes, h .edges, h .ports)
-
-add-ids : tie.Need-add-ids
-add-ids c = let h = form (c .before .before .before .before .before .before .before .before .before .before .before .before .before .before .before .before .before .before .before .before) .held .limits in omega arith
-
-mul-put-moved-edges : tie.Need-mul-put-moved-edges
-mul-put-moved-edges c = let h = form (c .before .before .before .before .before .before .before .before .before .before .before .before .before .before .before .before .before .before .before .before .before .before) .held .limits in omega arith
-
-add-put-moved-edges : tie.Need-add-put-moved-edges
-add-put-moved-edges c =
-    let h = form (c .before .before .before .before .before .before .before .before .before .before .before .before .before .before .before .before .before .before .before .before .before .before) .held .limits in
-    let a = c .before .before .before .before .before .before .before .before .before .before .before .before .before .before .before .before .before .before .before .before .before .before .before .args in
-    let ls = numbers 4 (a .z .nodes) (drop 15 (now (a .src))) in
-    omega (
-      arith,
-      c .before .before .before .before .before .before .before .before .before .before .before .before .before .put-left-labels .ensures .next,
-      length-row 4 (remaining (marked (now (a .room))) 0 ls),
-      remaining-fewer (marked (now (a .room))) 0 ls,
-      length-numbers 4 (a .z .nodes) (drop 15 (now (a .src))),
+    let s = c .before .before .before .before .before .before .before .before .before .before .before in
+    let rows = stored-rows (s .pre .0 .0) in
+    let here = ap (λ (l : List ℕ). length (remaining (goes s) 0 l)) (at-span (now (s .args .src)) 0 (s .args .z .nodes) (c .before .before .label-row .ensures) (rows .labels)) in (
+      at-row (c .before .before .label-row .ensures) (holds-less (rows .labels-held) _ (omega arith)),
+      s .pre .0 .1 .marks,
+      at-row (c .before .label-row2 .ensures) (holds-same (holds-less (labels-there s) _ (omega (arith, here))) _
+          (ap length (c .before .before .before .before .before .put-header .ensures) ∙ length-headed (now (s .args .out)) (s .args .y))),
     )
 
+-- the labels of the nodes, and of all
+node-labels : (c : tie.After-put-left-labels) → Put (headed (now (c .before .before .before .before .before .before .before .before .before .before .before .before .args .out)) (c .before .before .before .before .before .before .before .before .before .before .before .before .args .y)) (c .before .before .label-row2 .result) 0 (kept (c .before .before .before .before .before .before .before .before .before .before .before .before) .labels) (c .put-left-labels .last .1 .1 .1 .1 .1 .0) (c .put-left-labels .result)
+unfolding kept
+node-labels c =
+    let s = c .before .before .before .before .before .before .before .before .before .before .before .before in
+    let e = ap (remaining (goes s) 0) (at-span (now (s .args .src)) 0 (s .args .z .nodes) (c .before .before .before .label-row .ensures) (stored-rows (s .pre .0 .0) .labels)) in
+    let p = c .put-left-labels .ensures in
+    record { stored = p .stored ∙ (λ i. puts (c .before .before .before .before .before .before .put-header .ensures i) (c .before .before .label-row2 .result) 0 (e i)); next = p .next ∙ ap (λ (l : List ℕ). 0 + length l) e }
+
+copy-numbers-requires : tie.Need-copy-numbers-requires
+unfolding kept
+copy-numbers-requires c κs =
+    let s = c .before .before .before .before .before .before .before .before .before .before .before .before .before .before .before in
+    let rows = stored-rows (s .pre .0 .0) in
+    let p = node-labels (c .before .before .before) in (
+      at-row (c .before .before .before .before .before .label-row2 .ensures)
+          (holds-same (holds-less (labels-there s) _ (omega (arith, p .next, edge-count s))) _ (put-length p ∙ length-headed (now (s .args .out)) (s .args .y))),
+      at-row (c .before .before .before .before .before .before .label-row .ensures) (rows .labels-held),
+    )
+
+all-labels : (c : tie.After-copy-numbers) → Put (headed (now (c .before .before .before .before .before .before .before .before .before .before .before .before .before .before .before .before .args .out)) (c .before .before .before .before .before .before .before .before .before .before .before .before .before .before .before .before .args .y)) (c .before .before .before .before .before .before .label-row2 .result) 0 (labelRow (kept (c .before .before .before .before .before .before .before .before .before .before .before .before .before .before .before .before))) (c .copy-numbers .last .0) (c .before .before .before .before .put-left-labels .result + c .before .before .before .before .before .before .before .before .before .before .before .before .before .before .before .before .args .z .edges)
+unfolding kept
+all-labels c =
+    let s = c .before .before .before .before .before .before .before .before .before .before .before .before .before .before .before .before in
+    put-then (node-labels (c .before .before .before .before)) (copied (now (s .args .src)) (s .args .z .nodes) (s .args .z .edges) (c .copy-numbers .ensures) (c .before .before .before .before .before .before .before .label-row .ensures) (edge-labels-kept (s .pre .0 .0) (goes s)) refl)
+
+labels-long : (c : tie.After-copy-numbers) → length (c .copy-numbers .last .0) ≡ length (now (c .before .before .before .before .before .before .before .before .before .before .before .before .before .before .before .before .args .out))
+labels-long c = put-length (all-labels c) ∙ length-headed (now (c .before .before .before .before .before .before .before .before .before .before .before .before .before .before .before .before .args .out)) (c .before .before .before .before .before .before .before .before .before .before .before .before .before .before .before .before .args .y)
+
+body-row-requires : tie.Need-body-row-requires
+body-row-requires c κs = c .before .before .before .before .before .before .before .before .before .before .before .before .before .before .before .before .before .before .pre .0 .2 .low
+
+mul-lists : tie.Need-mul-lists
+mul-lists c = let low = stored-rows (c .before .before .before .before .before .before .before .before .before .before .before .before .before .before .before .before .before .before .before .before .pre .0 .0) .low in omega arith
+
+add-lists : tie.Need-add-lists
+add-lists c = let low = stored-rows (c .before .before .before .before .before .before .before .before .before .before .before .before .before .before .before .before .before .before .before .before .before .pre .0 .0) .low in omega arith
+
+add-ids : tie.Need-add-ids
+add-ids c = let low = stored-rows (c .before .before .before .before .before .before .before .before .before .before .before .before .before .before .before .before .before .before .before .before .before .before .pre .0 .0) .low in omega arith
+
 put-moved-edges-requires : tie.Need-put-moved-edges-requires
+unfolding kept
 put-moved-edges-requires c κs =
-    let s = c .before .before .before .before .before .before .before .before .before .before .before .before .before .before .before .before .before .before .before .before .before .before .before in
-    let a = s .args in
-    let b = now (a .src) in
-    let z = a .z in
-    let table = now (a .map) in
-    let f = form (c .before .before .before .before .before .before .before .before .before .before .before .before .before .before .before .before .before .before .before .before .before .before) in
-    let ids = ids-below b z (f .graph) (f .held) in
-    let half : z .nodes ≤ length table / 2 = omega (arith, s .pre .0 .2) in (
-      f .graph .edges,
-      f .held .edge-count,
-      subst (λ (n : ℕ). EdgesAt b n (f .graph .edges)) (sym (c .before .before .before .before .edges-at .ensures)) (f .held .edges),
-      below-widen (edgeEntries (f .graph .edges)) half (ids .edges),
-      omega (arith, space (c .before .before .before .before .before .before .before .before .before .before .before .before .before .before .before .before .before .before .before .before .before .before), c .before .before .before .before .before .before .before .before .before .before .before .before .before .put-left-labels .ensures .next, wide-3 (c .before .before .before .before .before .before .before)),
+    let s = c .before .before .before .before .before .before .before .before .before .before .before .before .before .before .before .before .before .before .before .before .before .before .before in (
+      s .pre .0 .0,
+      s .pre .0 .1,
+      at-row (c .before .before .before .before .body-row .ensures) (holds-same (holds-less (body-there s) _ (omega arith)) _ (labels-long (c .before .before .before .before .before .before .before))),
     )
 
 put-moved-ids-requires : tie.Need-put-moved-ids-requires
+unfolding kept
 put-moved-ids-requires c κs =
     let s = c .before .before .before .before .before .before .before .before .before .before .before .before .before .before .before .before .before .before .before .before .before .before .before .before .before .before .before in
-    let a = s .args in
-    let b = now (a .src) in
-    let z = a .z in
-    let table = now (a .map) in
-    let f = form (c .before .before .before .before .before .before .before .before .before .before .before .before .before .before .before .before .before .before .before .before .before .before .before .before .before .before) in
-    let ids = ids-below b z (f .graph) (f .held) in
-    let half : z .nodes ≤ length table / 2 = omega (arith, s .pre .0 .2) in
-    let p = c .before .before .before .put-moved-edges .ensures (f .graph .edges) (f .held .edge-count) (subst (λ (n : ℕ). EdgesAt b n (f .graph .edges)) (sym (c .before .before .before .before .before .before .before .before .edges-at .ensures)) (f .held .edges)) in
-    let below : Below (length table / 2) (f .graph .sources ++ f .graph .targets) =
-    below-widen (f .graph .sources ++ f .graph .targets) half (below-append (z .nodes) (f .graph .sources) (f .graph .targets) (ids .sources) (ids .targets)) in
-    let at = c .before .before .before .before .before .before .before .lists-at .ensures in
-    let long : length (row 2 (moved table (numbers 2 (z .sources + z .targets) (drop (c .before .before .before .before .before .before .before .lists-at .result) b)))) ≡ length (row 2 (moved table (numbers 2 (z .sources + z .targets) (drop (listsAt (z .nodes) (z .edges) (z .ports)) b)))) =
-    ap (λ (n : ℕ). length (row 2 (moved table (numbers 2 (z .sources + z .targets) (drop n b))))) at in (
-      omega (arith, f .held .sections .long, at),
-      subst (λ (n : ℕ). Below (length table / 2) (numbers 2 (z .sources + z .targets) (drop n b))) (sym at) (subst (Below (length table / 2)) (sym (both-read b z (f .graph) (f .held))) below),
-      omega (arith, space (c .before .before .before .before .before .before .before .before .before .before .before .before .before .before .before .before .before .before .before .before .before .before .before .before .before .before), c .before .before .before .before .before .before .before .before .before .before .before .before .before .before .before .before .before .put-left-labels .ensures .next, p .next, long, wide-4 (c .before .before .before)),
+    let rows = stored-rows (s .pre .0 .0) in
+    let known = stored-known (s .pre .0 .0) in
+    let p = c .before .before .before .put-moved-edges .ensures in (
+      s .pre .0 .1,
+      holds-less (rows .body-held) _ (omega arith),
+      span-known _ _ _ _ (ids-there (s .pre .0 .0)) (below-append _ (graphOf (now (s .args .src)) .sources) _ (known .sources) (known .targets)) (omega arith),
+      at-row (c .before .before .before .before .before .before .before .before .body-row .ensures)
+          (holds-same (holds-less (body-there s) _ (omega (arith, p .next, ids-long s))) _ (put-length p ∙ labels-long (c .before .before .before .before .before .before .before .before .before .before .before))),
     )
-
-mul-put-moved-pairs : tie.Need-mul-put-moved-pairs
-mul-put-moved-pairs c = let h = form (c .before .before .before .before .before .before .before .before .before .before .before .before .before .before .before .before .before .before .before .before .before .before .before .before .before .before .before .before .before) .held .limits in omega arith
 
 add-put-moved-pairs : tie.Need-add-put-moved-pairs
-add-put-moved-pairs c = let h = form (c .before .before .before .before .before .before .before .before .before .before .before .before .before .before .before .before .before .before .before .before .before .before .before .before .before .before .before .before .before) .held .limits in omega (arith, c .before .before .before .before .before .before .before .before .before .before .lists-at .ensures)
+add-put-moved-pairs c = let low = stored-rows (c .before .before .before .before .before .before .before .before .before .before .before .before .before .before .before .before .before .before .before .before .before .before .before .before .before .before .before .before .before .before .pre .0 .0) .low in omega arith
 
 put-moved-pairs-requires : tie.Need-put-moved-pairs-requires
+unfolding kept
 put-moved-pairs-requires c κs =
     let s = c .before .before .before .before .before .before .before .before .before .before .before .before .before .before .before .before .before .before .before .before .before .before .before .before .before .before .before .before .before .before .before in
-    let a = s .args in
-    let b = now (a .src) in
-    let z = a .z in
-    let table = now (a .map) in
-    let f = form (c .before .before .before .before .before .before .before .before .before .before .before .before .before .before .before .before .before .before .before .before .before .before .before .before .before .before .before .before .before .before) in
-    let ids = ids-below b z (f .graph) (f .held) in
-    let half : z .nodes ≤ length table / 2 = omega (arith, s .pre .0 .2) in
-    let p = c .before .before .before .before .before .before .before .put-moved-edges .ensures (f .graph .edges) (f .held .edge-count) (subst (λ (n : ℕ). EdgesAt b n (f .graph .edges)) (sym (c .before .before .before .before .before .before .before .before .before .before .before .before .edges-at .ensures)) (f .held .edges)) in
-    let at = c .before .before .before .before .before .before .before .before .before .before .before .lists-at .ensures in
-    let lists : length (row 2 (moved table (numbers 2 (z .sources + z .targets) (drop (c .before .before .before .before .before .before .before .before .before .before .before .lists-at .result) b)))) ≡ length (row 2 (moved table (numbers 2 (z .sources + z .targets) (drop (listsAt (z .nodes) (z .edges) (z .ports)) b)))) =
-    ap (λ (n : ℕ). length (row 2 (moved table (numbers 2 (z .sources + z .targets) (drop n b))))) at in
-    let long : length (row 2 (flat (movedPairs table (paired (numbers 2 (2 * z .pairs) (drop (c .before .before .before .before .before .before .before .before .before .before .before .lists-at .result + (z .sources + z .targets) * 2) b)))))) ≡ length (row 2 (flat (movedPairs table (paired (numbers 2 (2 * z .pairs) (drop (listsAt (z .nodes) (z .edges) (z .ports) + (z .sources + z .targets) * 2) b)))))) =
-    ap (λ (n : ℕ). length (row 2 (flat (movedPairs table (paired (numbers 2 (2 * z .pairs) (drop (n + (z .sources + z .targets) * 2) b))))))) at in (
-      omega (arith, f .held .sections .long, at),
-      subst (λ (n : ℕ). Below (length table / 2) (numbers 2 (2 * z .pairs) (drop (n + (z .sources + z .targets) * 2) b))) (sym at)
-          (subst (Below (length table / 2)) (sym (ends-read b z (f .graph) (f .held))) (below-widen (flat (f .graph .pairs)) half (ids .pairs))),
-      omega (arith, space (c .before .before .before .before .before .before .before .before .before .before .before .before .before .before .before .before .before .before .before .before .before .before .before .before .before .before .before .before .before .before), c .before .before .before .before .before .before .before .before .before .before .before .before .before .before .before .before .before .before .before .before .before .put-left-labels .ensures .next, p .next, c .before .before .before .put-moved-ids .ensures .next, lists, long, wide-5 (c .before .before .before)),
+    let rows = stored-rows (s .pre .0 .0) in
+    let p = c .before .before .before .before .before .before .before .put-moved-edges .ensures in
+    let q = c .before .before .before .put-moved-ids .ensures in
+    let there = pairs-there (s .pre .0 .0) (goes s) in (
+      s .pre .0 .1,
+      holds-less (rows .body-held) _ (omega arith),
+      span-known _ _ _ _ there (stored-known (s .pre .0 .0) .pairs) (omega arith),
+      at-row (c .before .before .before .before .before .before .before .before .before .before .before .before .body-row .ensures)
+          (holds-same (holds-less (body-there s) _ (omega (arith, p .next, q .next, ids-long s, ap (λ (ps : List (ℕ × ℕ)). length (flat ps)) (pairs-moved (s .pre .0 .0) (goes s) there)))) _
+          (put-length q ∙ put-length p ∙ labels-long (c .before .before .before .before .before .before .before .before .before .before .before .before .before .before .before))),
     )
 
+-- all counts and ids
+written : (c : tie.After-slice-known7) → Put (c .before .before .before .before .before .before .before .before .before .before .before .before .before .before .before .before .before .before .copy-numbers .last .0) (c .before .before .before .before .before .before .before .before .before .before .before .before .before .before .before .body-row .result) 0 (body (kept (c .before .before .before .before .before .before .before .before .before .before .before .before .before .before .before .before .before .before .before .before .before .before .before .before .before .before .before .before .before .before .before .before .before .before))) (c .before .before .put-moved-pairs .last .1 .1 .1 .1 .1 .1 .0) (c .before .before .put-moved-pairs .result)
+unfolding kept
+written c =
+    let s = c .before .before .before .before .before .before .before .before .before .before .before .before .before .before .before .before .before .before .before .before .before .before .before .before .before .before .before .before .before .before .before .before .before .before in
+    let g = kept s in
+    let e = (λ i. ids-moved (s .pre .0 .0) (goes s) i ++ flat (pairs-moved (s .pre .0 .0) (goes s) (pairs-there (s .pre .0 .0) (goes s)) i)) ∙ append-assoc (g .sources) (g .targets) (flat (g .pairs)) in
+    put-then (c .before .before .before .before .before .before .before .before .before .before .put-moved-edges .ensures)
+    (subst (λ (l : List ℕ). Put (c .before .before .before .before .before .before .before .before .before .before .put-moved-edges .last .1 .1 .1 .1 .0) (c .before .before .before .before .before .before .before .before .before .before .before .before .before .before .before .body-row .result) (c .before .before .before .before .before .before .before .before .before .before .put-moved-edges .result) l (c .before .before .put-moved-pairs .last .1 .1 .1 .1 .1 .1 .0) (c .before .before .put-moved-pairs .result)) e
+    (put-then (c .before .before .before .before .before .before .put-moved-ids .ensures) (c .before .before .put-moved-pairs .ensures)))
+
 same-length : tie.Need-same-length
-same-length c = wide-6 (c .before .before)
+same-length c = put-length (written c) ∙ labels-long (c .before .before .before .before .before .before .before .before .before .before .before .before .before .before .before .before .before .before)
 
 returns : tie.Need-returns
-returns c g p =
-    let s = c .before .before .before .before .before .before .before .before .before .before .before .before .before .before .before .before .before .before .before .before .before .before .before .before .before .before .before .before .before .before .before .before .before .before in
-    let a = s .args in
-    let b = now (a .src) in
-    let h = holds b (bytes (c .before .before .before .before .before .before .before .before .before .before .before .before .before .before .before .before .before .before .before .before .before .before .before .before .before .before .before .before .before .before .before .before .before)) (a .z) (s .pre .0 .0) g p in
-    let e = c .before .before .before .before .before .before .before .before .before .before .put-moved-edges .ensures (g .edges) (h .edge-count) (subst (λ (n : ℕ). EdgesAt b n (g .edges)) (sym (c .before .before .before .before .before .before .before .before .before .before .before .before .before .before .before .edges-at .ensures)) (h .edges)) in
-    nodes-written b (a .z) g h (marked (now (a .room))) (now (a .map)) (agree (c .before .before .before .before .before .before .before .before .before .before .before .before .before .before .before .before .before .before .before .before .before .before .before .before .before .before .before .before .before .before .before .before .before)) (a .y) (s .pre .1 .1 g p .0) (now (a .out)) _ _ _ _ _ _ _ _ _ _ _ (s .pre .1 .1 g p .1) (c .before .before .before .before .before .before .before .before .before .before .before .before .before .before .lists-at .ensures)
-    (c .before .before .before .before .before .before .before .before .before .before .before .before .before .before .before .before .before .before .before .before .before .before .before .before .before .before .before .before .put-header .ensures) (c .before .before .before .before .before .before .before .before .before .before .before .before .before .before .before .before .before .before .before .before .before .before .before .before .put-left-labels .ensures) (c .before .before .before .before .before .before .before .before .before .before .before .before .before .before .before .before .before .before .copy .ensures) e (c .before .before .before .before .before .before .put-moved-ids .ensures) (c .before .before .put-moved-pairs .ensures)
+unfolding kept
+returns c =
+    drawn-by (now (c .before .before .before .before .before .before .before .before .before .before .before .before .before .before .before .before .before .before .before .before .before .before .before .before .before .before .before .before .before .before .before .before .before .before .args .out)) (c .before .before .before .before .before .before .before .before .before .before .before .before .before .before .before .before .before .before .before .before .before .before .before .before .before .before .before .before .before .before .before .before .before .before .args .y) (c .before .before .before .before .before .before .before .before .before .before .before .before .before .before .before .before .before .before .before .before .before .before .before .before .label-row2 .ensures) (c .before .before .before .before .before .before .before .before .before .before .before .before .before .before .before .body-row .ensures) (all-labels (c .before .before .before .before .before .before .before .before .before .before .before .before .before .before .before .before .before .before)) (written c)
 
 pub put-without-nodes-spec : {M : Type 1} → statement M
 put-without-nodes-spec =
     tie.close
     (tie.spec
     put-header-requires
+    label-row-requires
+    label-row-requires-2
     put-left-labels-requires
-    mul-copy
-    add-copy
-    mul-copy-2
-    copy-requires
-    edges-at-requires
-    lists-at-requires
+    copy-numbers-requires
+    body-row-requires
+    mul-lists
+    add-lists
     add-ids
-    mul-put-moved-edges
-    add-put-moved-edges
     put-moved-edges-requires
     put-moved-ids-requires
-    mul-put-moved-pairs
     add-put-moved-pairs
     put-moved-pairs-requires
     same-length

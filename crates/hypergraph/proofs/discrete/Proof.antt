@@ -1,30 +1,37 @@
 -- `hypergraph::discrete` meets its contract.
 -- Assumes nothing.
-use mathlib.Core.List.{_++_}
-use mathlib.Core.Path.{ap, _∙_, refl}
+use mathlib.Core.List.{List, []}
+use mathlib.Core.Logic.{inr}
+use mathlib.Core.Path.{refl, sym, ap, _∙_}
+use Prim.Native.Nat.{ℕ}
 use native.Mathlib.Omega.{arith}
-use lib.ListN.{length}
-use lib.Seq.{sets, take-length}
 use denote.Ref.{now}
+use lib.ListN.{length}
 use borrow.Author.Needs.{needs}
-use Rattle.form.specs.Form.{countsOf, listRefusal, fitRefusal}
-use Rattle.graph.specs.Calls.{labelList}
-use Rattle.graph.specs.Form.{header}
-use Rattle.graph.specs.Graph.{form1}
-use Rattle.le.proofs.Numbers.{below-each}
-use Rattle.hypergraph.proofs.Calls.{discrete-7, discrete-made}
-use Rattle.hypergraph.proofs.Ends.{ends-refused, ends-unfit, ends-room, ends-done}
-use Rattle.hypergraph.proofs.Forms.{sizes, discrete-sizes, discrete-form}
-use Rattle.hypergraph.proofs.Listed.{Row, unlisted, labels-listed}
-use Rattle.hypergraph.proofs.Parts.{sets-then}
+use Rattle.graph.specs.Build.{discrete}
+use Rattle.graph.specs.Calls.{discreteCall, discreteStep, labelList}
+use Rattle.graph.proofs.Steps.{stops, goes}
+use Rattle.form.proofs.Answers.{list-refused}
+use Rattle.write.specs.Write.{drawn, fitted, countedAs}
+use Rattle.write.proofs.Calls.{nothing-stopped-gives}
+use Rattle.hypergraph.specs.Lent.{lent}
+use Rattle.hypergraph.proofs.Bodies.{discrete-labels}
+use Rattle.hypergraph.proofs.Calls.{Ends, nothing-ends, passed-on}
+use Rattle.hypergraph.proofs.Listed.{Given, labels-given}
 use Rattle.hypergraph.proofs.discrete.Statement.{statement}
 use Rattle.hypergraph.proofs.discrete.Tie as tie
 
--- the list in the call
-labels : (c : tie.After-known-told) → Row 4 (now (c .before .before .before .before .before .before .args .labels)) (labelList (now (c .before .before .before .before .before .before .args .labels))) (c .before .list .given .0 .0)
-labels c =
-    let b = now (c .before .before .before .before .before .before .args .labels) in
-    labels-listed b (below-each 256 b (λ i l. omega (arith, c .before .before .before .before .before .shared-slice-known .given i))) (c .before .before .before .label-list .result) (c .before .list .given .0 .0) (c .before .list .given .1) (c .before .before .before .label-list .ensures)
+list : (c : tie.After-known-told) → Given (labelList (now (c .before .before .before .before .before .before .args .labels))) (now (c .before .before .before .before .before .before .args .labels)) 4 (c .before .list .given .0 .0)
+list c = labels-given _ (c .before .before .before .label-list .result) _ (c .before .list .given .1) (inr refl) (c .before .before .before .label-list .ensures)
+
+ends : (c : tie.After-result-size) → Ends (discreteCall (now (c .before .before .before .before .before .before .before .before .args .labels)) (length (now (c .before .before .before .before .before .before .before .before .args .out)))) (now (c .before .before .before .before .before .before .before .before .args .out))
+    (c .before .sized .result) (c .result-size .result) (discrete (lent (now (c .before .before .before .before .before .before .before .before .args .labels)) 4 (c .before .before .before .list .given .0 .0))) 0
+unfolding discreteStep discrete
+ends c =
+    let labels = lent (now (c .before .before .before .before .before .before .before .before .args .labels)) 4 (c .before .before .before .list .given .0 .0) in
+    let l = list (c .before .before) in
+    nothing-ends (now (c .before .before .before .before .before .before .before .before .args .out)) (discrete labels) 0 (c .before .sized .ensures ∙ ap (λ (k : ℕ). fitted (countedAs k 0 0 0 0) 0) (l .many)) (c .result-size .ensures)
+    (discreteStep (now (c .before .before .before .before .before .before .before .before .args .labels))) (goes _ (l .answers))
 
 label-list-requires : tie.Need-label-list-requires
 label-list-requires c κs = search needs
@@ -39,19 +46,19 @@ refusal-requires : tie.Need-refusal-requires
 refusal-requires c κs = search needs
 
 returns : tie.Need-returns
+unfolding discreteStep
 returns c =
     let a = c .before .before .before .before .before .before .args in
-    let x = c .before .enum-told .given in
-    let r = c .before .before .before .label-list in
-    ends-refused _ (now (a .out)) (x .0 .0) (c .refusal .result)
-    (discrete-7 (length (now (a .out))) (now (a .labels)) (x .0 .0 .no) (unlisted _ (r .result) (r .ensures) (x .0 .0) (x .1)))
-    (c .refusal .ensures ∙ ap listRefusal (x .1))
+    nothing-stopped-gives (discreteStep (now (a .labels))) (now (a .out)) _ (stops _ (list-refused _ _ (c .before .before .before .label-list .ensures) _ (passed-on (c .before .enum-told .given .1) (c .refusal .ensures))))
+
+sized-requires : tie.Need-sized-requires
+sized-requires c κs = search needs
 
 result-size-requires : tie.Need-result-size-requires
-result-size-requires c κs = search needs
+result-size-requires c κs = rw (c .sized .ensures)
 
-enum-known-fit : tie.Need-enum-known-fit
-enum-known-fit c = search needs
+enum-known-size : tie.Need-enum-known-size
+enum-known-size c = search needs
 
 enum-told-2 : tie.Need-enum-told-2
 enum-told-2 c = search needs
@@ -60,48 +67,19 @@ refusal-requires-2 : tie.Need-refusal-requires-2
 refusal-requires-2 c κs = search needs
 
 returns-2 : tie.Need-returns-2
-returns-2 c =
-    let a = c .before .before .before .before .before .before .before .before .before .before .args in
-    let p = labels (c .before .before .before .before) in
-    let r = c .before .before .before .result-size in
-    let x = c .before .enum-told2 .given in
-    ends-unfit _ (now (a .out)) _ (discrete-made (length (now (a .out))) (now (a .labels)) (p .entries) (p .read)) _ (discrete-sizes (p .entries) _ (p .many))
-    (r .result) (r .ensures) (x .0 .0) (c .refusal2 .result) (x .1) (c .refusal2 .ensures ∙ ap fitRefusal (x .1))
+returns-2 c = ends (c .before .before .before) .refuses (c .before .enum-told2 .given .1) (c .refusal2 .ensures)
 
-put-header-requires : tie.Need-put-header-requires
-put-header-requires c κs =
-    let a = c .before .before .before .before .before .before .before .before .before .before .before .args in
-    let p = labels (c .before .before .before .before .before) in
-    let r = c .before .before .before .before .result-size in
-    let x = c .before .before .fit .given in
-    let h = ends-room _ (now (a .out)) _ (discrete-made (length (now (a .out))) (now (a .labels)) (p .entries) (p .read)) _ (discrete-sizes (p .entries) _ (p .many)) (r .result) (r .ensures) (x .0 .0) (x .1) in
-    (omega (arith, h .room), omega (arith, h .within .nodes), omega arith, omega arith, omega arith, omega arith)
-
-copy-requires : tie.Need-copy-requires
-copy-requires c κs =
-    let a = c .before .before .before .before .before .before .before .before .before .before .before .before .before .before .before .args in
-    let p = labels (c .before .before .before .before .before .before .before .before .before) in
-    let r = c .before .before .before .before .before .before .before .before .result-size in
-    let x = c .before .before .before .before .before .before .fit .given in
-    let h = ends-room _ (now (a .out)) _ (discrete-made (length (now (a .out))) (now (a .labels)) (p .entries) (p .read)) _ (discrete-sizes (p .entries) _ (p .many)) (r .result) (r .ensures) (x .0 .0) (x .1) in
-    (omega (arith, h .room, p .long), omega arith)
+put-head-requires : tie.Need-put-head-requires
+put-head-requires c κs = (ends (c .before .before .before .before) .room (c .before .before .size .given .1), list (c .before .before .before .before .before .before) .there, omega (arith, ap (λ y. y .nodes) (c .before .before .before .before .before .sized .ensures)))
 
 same-length : tie.Need-same-length
-same-length c = search needs
+same-length c = c .before .before .put-head .kept .0
 
 returns-3 : tie.Need-returns-3
+unfolding discrete
 returns-3 c =
-    let a = c .before .before .before .before .before .before .before .before .before .before .before .before .before .before .before .before .before .before .args in
-    let b = now (a .labels) in
-    let p = labels (c .before .before .before .before .before .before .before .before .before .before .before .before) in
-    let n = c .before .before .before .before .before .before .before .before .before .before .before .before .before .list .given .0 .0 in
-    let r = c .before .before .before .before .before .before .before .before .before .before .before .result-size in
-    let x = c .before .before .before .before .before .before .before .before .before .fit .given in
-    let v = c .before .before .before .before .before .before .put-header in
-    let w = c .before .before .copy in
-    let head = header form1 (countsOf (sizes n 0 0 0 0 0)) in
-    ends-done _ (now (a .out)) _ (discrete-made (length (now (a .out))) (now (a .labels)) (p .entries) (p .read)) _ (discrete-sizes (p .entries) _ (p .many)) (r .result) (r .ensures) (x .0 .0) (x .1) (w .last .0) (head ++ b)
-    (sets-then (now (a .out)) (v .last .0) (w .last .0) head b 0 15 (v .ensures) refl (w .ensures ∙ ap (sets (v .last .0) 15) (take-length b))) (discrete-form b (p .entries) n (p .many) (p .row-is))
+    let labels = lent (now (c .before .before .before .before .before .before .before .before .before .before .before .before .before .before .before .args .labels)) 4 (c .before .before .before .before .before .before .before .before .before .before .list .given .0 .0) in
+    ends (c .before .before .before .before .before .before .before) .done (c .before .before .before .before .before .size .given .1) (c .before .before .put-head .ensures ∙ ap (λ (l : List ℕ). drawn (now (c .before .before .before .before .before .before .before .before .before .before .before .before .before .before .before .args .out)) (c .before .before .before .before .before .before .before .before .sized .result) l []) (sym (discrete-labels labels)))
 
 pub discrete-spec : {M : Type 1} → statement M
 discrete-spec =
@@ -112,12 +90,12 @@ discrete-spec =
     enum-told
     refusal-requires
     returns
+    sized-requires
     result-size-requires
-    enum-known-fit
+    enum-known-size
     enum-told-2
     refusal-requires-2
     returns-2
-    put-header-requires
-    copy-requires
+    put-head-requires
     same-length
     returns-3)

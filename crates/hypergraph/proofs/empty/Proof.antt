@@ -1,24 +1,29 @@
 -- `hypergraph::empty` meets its contract.
 -- Assumes nothing.
-use mathlib.Core.Path.{ap, _∙_, refl}
-use native.Mathlib.Omega.{arith}
-use lib.ListN.{length}
+use mathlib.Core.Path.{refl, sym, _∙_}
 use denote.Ref.{now}
+use lib.ListN.{length}
 use borrow.Author.Needs.{needs}
-use Rattle.form.specs.Form.{countsOf, fitRefusal}
-use Rattle.graph.specs.Form.{header}
-use Rattle.graph.specs.Graph.{form1}
-use Rattle.hypergraph.proofs.Calls.{empty-made}
-use Rattle.hypergraph.proofs.Ends.{ends-unfit, ends-room, ends-done}
-use Rattle.hypergraph.proofs.Forms.{sizes, empty-form}
+use Rattle.graph.specs.Build.{empty}
+use Rattle.graph.specs.Calls.{emptyCall, emptyStep}
+use Rattle.write.proofs.Results.{drawn-start}
+use Rattle.hypergraph.proofs.Calls.{Ends, nothing-ends}
 use Rattle.hypergraph.proofs.empty.Statement.{statement}
 use Rattle.hypergraph.proofs.empty.Tie as tie
 
-result-size-requires : tie.Need-result-size-requires
-result-size-requires c κs = search needs
+ends : (c : tie.After-result-size) → Ends (emptyCall (length (now (c .before .before .before .args .out)))) (now (c .before .before .before .args .out))
+    (c .before .sized .result) (c .result-size .result) empty 0
+unfolding emptyStep
+ends c = nothing-ends (now (c .before .before .before .args .out)) empty 0 (c .before .sized .ensures) (c .result-size .ensures) emptyStep refl
 
-enum-known-fit : tie.Need-enum-known-fit
-enum-known-fit c = search needs
+sized-requires : tie.Need-sized-requires
+sized-requires c κs = search needs
+
+result-size-requires : tie.Need-result-size-requires
+result-size-requires c κs = rw (c .sized .ensures)
+
+enum-known-size : tie.Need-enum-known-size
+enum-known-size c = search needs
 
 enum-told : tie.Need-enum-told
 enum-told c = search needs
@@ -27,37 +32,24 @@ refusal-requires : tie.Need-refusal-requires
 refusal-requires c κs = search needs
 
 returns : tie.Need-returns
-returns c =
-    let a = c .before .before .before .before .before .args in
-    let r = c .before .before .before .result-size in
-    let x = c .before .enum-told .given in
-    ends-unfit _ (now (a .out)) _ (empty-made (length (now (a .out)))) _ refl (r .result) (r .ensures) (x .0 .0) (c .refusal .result) (x .1) (c .refusal .ensures ∙ ap fitRefusal (x .1))
+returns c = ends (c .before .before .before) .refuses (c .before .enum-told .given .1) (c .refusal .ensures)
 
 put-header-requires : tie.Need-put-header-requires
-put-header-requires c κs =
-    let a = c .before .before .before .before .before .before .args in
-    let r = c .before .before .before .before .result-size in
-    let x = c .before .before .fit .given in
-    let h = ends-room _ (now (a .out)) _ (empty-made (length (now (a .out)))) _ refl (r .result) (r .ensures) (x .0 .0) (x .1) in
-    (omega (arith, h .room), omega arith, omega arith, omega arith, omega arith, omega arith)
+put-header-requires c κs = let r = ends (c .before .before .before .before) .room (c .before .before .size .given .1) in (r .low, r .fits, r .header)
 
 same-length : tie.Need-same-length
-same-length c = search needs
+same-length c = c .before .before .put-header .kept .0
 
 returns-2 : tie.Need-returns-2
-returns-2 c =
-    let a = c .before .before .before .before .before .before .before .before .before .args in
-    let r = c .before .before .before .before .before .before .before .result-size in
-    let x = c .before .before .before .before .before .fit .given in
-    let w = c .before .before .put-header in
-    ends-done _ (now (a .out)) _ (empty-made (length (now (a .out)))) _ refl (r .result) (r .ensures) (x .0 .0) (x .1) (w .last .0) (header form1 (countsOf (sizes 0 0 0 0 0 0))) (w .ensures) empty-form
+returns-2 c = ends (c .before .before .before .before .before .before .before) .done (c .before .before .before .before .before .size .given .1) (c .before .before .put-header .ensures ∙ sym (drawn-start (now (c .before .before .before .before .before .before .before .before .before .before .args .out)) (c .before .before .before .before .before .before .before .before .sized .result)))
 
 pub empty-spec : {M : Type 1} → statement M
 empty-spec =
     tie.close
     (tie.spec
+    sized-requires
     result-size-requires
-    enum-known-fit
+    enum-known-size
     enum-told
     refusal-requires
     returns

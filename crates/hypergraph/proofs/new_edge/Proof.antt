@@ -1,22 +1,24 @@
 -- `hypergraph::new_edge` meets its contract.
 -- Assumes nothing.
 use mathlib.Core.Path.{ap, _∙_}
+use Prim.Native.Nat.{_+_, _<_, _^_}
 use native.Mathlib.Omega.{arith}
-use lib.ListN.{length}
 use denote.Ref.{now}
+use lib.ListN.{length}
 use borrow.Author.Needs.{needs}
-use Rattle.form.specs.Form.{readRefusal, listRefusal, fitRefusal}
-use Rattle.form.specs.declared.Sizes.{Sizes}
-use Rattle.graph.specs.Calls.{idList, newEdgeStep}
-use Rattle.graph.specs.Graph.{form1}
-use Rattle.form.proofs.Sections.{stored-sections}
-use Rattle.form.proofs.Whole.{Stored, stored-graph, stored-limits, unread}
-use Rattle.graph.proofs.Verdicts.{call-unread}
+use Rattle.graph.specs.Build.{newEdge}
+use Rattle.graph.specs.Calls.{newEdgeCall, newEdgeStep, idList}
 use Rattle.le.proofs.Numbers.{below-each}
-use Rattle.hypergraph.proofs.Calls.{new-edge-sources-7, new-edge-targets-7, new-edge-made}
-use Rattle.hypergraph.proofs.Ends.{ends-over, ends-refused, ends-unfit, ends-room, ends-done}
-use Rattle.hypergraph.proofs.Forms.{new-edge-sizes, new-edge-form, edge-row}
-use Rattle.hypergraph.proofs.Listed.{Row, unlisted, ids-listed}
+use Rattle.le.proofs.Rows.{holds-index}
+use Rattle.form.specs.Form.{bodySize}
+use Rattle.form.specs.Stored.{Stored, graphOf, formatOf}
+use Rattle.form.proofs.Answers.{list-refused}
+use Rattle.form.proofs.Stored.{stored, unread, stored-rows}
+use Rattle.write.proofs.Calls.{graph-unread, graph-stopped}
+use Rattle.hypergraph.specs.Lent.{lent}
+use Rattle.hypergraph.proofs.Bodies.{new-edge-sizes}
+use Rattle.hypergraph.proofs.Calls.{Ends, graph-ends, graph-over, width, passed-read, passed-on, new-edge-sources, new-edge-targets, new-edge-next}
+use Rattle.hypergraph.proofs.Listed.{Given, ids-given}
 use Rattle.hypergraph.proofs.new_edge.Statement.{statement}
 use Rattle.hypergraph.proofs.new_edge.Tie as tie
 
@@ -24,19 +26,43 @@ use Rattle.hypergraph.proofs.new_edge.Tie as tie
 form : (c : tie.After-known-told) → Stored (now (c .before .before .before .before .before .before .before .before .args .src)) (c .before .graph .given .0 .0)
 form c =
     let b = now (c .before .before .before .before .before .before .before .before .args .src) in
-    stored-graph b (below-each 256 b (λ i l. omega (arith, c .before .before .before .before .before .before .before .shared-slice-known .given i)))
-    (c .before .before .before .read .result) (c .before .before .before .read .ensures) (c .before .graph .given .0 .0) (c .before .graph .given .1)
+    stored b (c .before .before .before .read .result) (c .before .before .before .read .ensures)
+    (below-each 256 b (λ i l. omega (arith, c .before .before .before .before .before .before .before .shared-slice-known .given i)))
+    (c .before .graph .given .0 .0) (c .before .graph .given .1)
 
 -- the lists in the call
-sources : (c : tie.After-known-told2) → Row 2 (now (c .before .before .before .before .before .before .before .before .before .before .before .before .args .sources)) (idList form1 (c .before .before .before .before .before .graph .given .0 .0 .nodes) (now (c .before .before .before .before .before .before .before .before .before .before .before .before .args .sources))) (c .before .from .given .0 .0)
+sources : (c : tie.After-known-told2) → Given
+    (idList (formatOf (now (c .before .before .before .before .before .before .before .before .before .before .before .before .args .src))) (c .before .before .before .before .before .graph .given .0 .0 .nodes) (now (c .before .before .before .before .before .before .before .before .before .before .before .before .args .sources))) (now (c .before .before .before .before .before .before .before .before .before .before .before .before .args .sources)) (c .before .before .before .before .before .graph .given .0 .0 .width) (c .before .from .given .0 .0)
 sources c =
-    let b = now (c .before .before .before .before .before .before .before .before .before .before .before .before .args .sources) in
-    ids-listed b (below-each 256 b (λ i l. omega (arith, c .before .before .before .before .before .before .before .before .before .before .shared-slice-known2 .given i))) (c .before .before .before .id-list .result) (c .before .from .given .0 .0) (c .before .from .given .1) (c .before .before .before .before .before .graph .given .0 .0 .nodes) (c .before .before .before .id-list .ensures)
+    let s = form (c .before .before .before .before) in
+    ids-given _ (c .before .before .before .id-list .result) _ (c .before .from .given .1) (formatOf (now (c .before .before .before .before .before .before .before .before .before .before .before .before .args .src)))
+    (width s) (stored-rows s .low .width) _ (c .before .before .before .id-list .ensures _ (width (form (c .before .before .before .before))))
 
-targets : (c : tie.After-known-told3) → Row 2 (now (c .before .before .before .before .before .before .before .before .before .before .before .before .before .before .before .before .args .targets)) (idList form1 (c .before .before .before .before .before .before .before .before .before .graph .given .0 .0 .nodes) (now (c .before .before .before .before .before .before .before .before .before .before .before .before .before .before .before .before .args .targets))) (c .before .to .given .0 .0)
+targets : (c : tie.After-known-told3) → Given
+    (idList (formatOf (now (c .before .before .before .before .before .before .before .before .before .before .before .before .before .before .before .before .args .src))) (c .before .before .before .before .before .before .before .before .before .graph .given .0 .0 .nodes) (now (c .before .before .before .before .before .before .before .before .before .before .before .before .before .before .before .before .args .targets))) (now (c .before .before .before .before .before .before .before .before .before .before .before .before .before .before .before .before .args .targets)) (c .before .before .before .before .before .before .before .before .before .graph .given .0 .0 .width) (c .before .to .given .0 .0)
 targets c =
-    let b = now (c .before .before .before .before .before .before .before .before .before .before .before .before .before .before .before .before .args .targets) in
-    ids-listed b (below-each 256 b (λ i l. omega (arith, c .before .before .before .before .before .before .before .before .before .before .before .before .before .shared-slice-known3 .given i))) (c .before .before .before .id-list2 .result) (c .before .to .given .0 .0) (c .before .to .given .1) (c .before .before .before .before .before .before .before .before .before .graph .given .0 .0 .nodes) (c .before .before .before .id-list2 .ensures)
+    let s = form (c .before .before .before .before .before .before .before .before) in
+    ids-given _ (c .before .before .before .id-list2 .result) _ (c .before .to .given .1) (formatOf (now (c .before .before .before .before .before .before .before .before .before .before .before .before .before .before .before .before .args .src)))
+    (width s) (stored-rows s .low .width) _ (c .before .before .before .id-list2 .ensures _ (width (form (c .before .before .before .before .before .before .before .before))))
+
+-- they are not so long that sums wrap
+short : (c : tie.After-known-told3) → c .before .before .before .before .before .from .given .0 .0 + c .before .to .given .0 .0 < 2 ^ 63
+short c = omega (arith, holds-index (sources (c .before .before .before .before) .there), holds-index (targets c .there))
+
+ends : (c : tie.After-result-size) → Ends (newEdgeCall (now (c .before .before .before .before .before .before .before .before .before .before .before .before .before .before .before .before .before .before .before .before .before .args .src)) (c .before .before .before .before .before .before .before .before .before .before .before .before .before .before .before .before .before .before .before .before .before .args .label)
+    (now (c .before .before .before .before .before .before .before .before .before .before .before .before .before .before .before .before .before .before .before .before .before .args .sources)) (now (c .before .before .before .before .before .before .before .before .before .before .before .before .before .before .before .before .before .before .before .before .before .args .targets)) (length (now (c .before .before .before .before .before .before .before .before .before .before .before .before .before .before .before .before .before .before .before .before .before .args .out)))) (now (c .before .before .before .before .before .before .before .before .before .before .before .before .before .before .before .before .before .before .before .before .before .args .out))
+    (c .before .sized .result) (c .result-size .result)
+    (newEdge (c .before .before .before .before .before .before .before .before .before .before .before .before .before .before .before .before .before .before .before .before .before .args .label) (lent (now (c .before .before .before .before .before .before .before .before .before .before .before .before .before .before .before .before .before .before .before .before .before .args .sources)) (c .before .before .before .before .before .before .before .before .before .before .before .before .before .before .graph .given .0 .0 .width) (c .before .before .before .before .before .before .before .before .before .before .from .given .0 .0))
+    (lent (now (c .before .before .before .before .before .before .before .before .before .before .before .before .before .before .before .before .before .before .before .before .before .args .targets)) (c .before .before .before .before .before .before .before .before .before .before .before .before .before .before .graph .given .0 .0 .width) (c .before .before .before .before .before .before .to .given .0 .0))
+    (graphOf (now (c .before .before .before .before .before .before .before .before .before .before .before .before .before .before .before .before .before .before .before .before .before .args .src)))) (c .before .before .before .before .before .before .before .before .before .before .before .before .before .before .graph .given .0 .0 .edges)
+ends c =
+    let a = c .before .before .before .before .before .before .before .before .before .before .before .before .before .before .before .before .before .before .before .before .before .args in
+    let s = form (c .before .before .before .before .before .before .before .before .before .before .before .before .before) in
+    let p = sources (c .before .before .before .before .before .before .before .before .before) in
+    let q = targets (c .before .before .before .before .before) in
+    graph-ends (now (a .out)) _ _ (c .before .sized .ensures ∙ new-edge-sizes s (a .label) _ _ _ _ (p .many) (q .many)) (c .result-size .ensures)
+    (now (a .src)) (λ f. newEdgeStep f (a .label) (now (a .sources)) (now (a .targets))) s
+    (new-edge-next s (a .label) (now (a .sources)) (now (a .targets)) (p .answers) (q .answers))
 
 read-requires : tie.Need-read-requires
 read-requires c κs = search needs
@@ -54,14 +80,11 @@ returns : tie.Need-returns
 returns c =
     let a = c .before .before .before .before .before .before .before .before .args in
     let b = now (a .src) in
-    let r = c .before .before .before .read in
-    let x = c .before .enum-told .given in
-    ends-refused _ (now (a .out)) (x .0 .0) (c .refusal .result)
-    (call-unread form1 b (length (now (a .out))) (newEdgeStep form1 (a .label) (now (a .sources)) (now (a .targets))) (x .0 .0 .no) (unread b (r .result) (r .ensures) (x .0 .0) (x .1)))
-    (c .refusal .ensures ∙ ap readRefusal (x .1))
+    graph-unread b (λ f. newEdgeStep f (a .label) (now (a .sources)) (now (a .targets))) (now (a .out)) _
+    (unread b (c .before .before .before .read .result) (c .before .before .before .read .ensures) _ (passed-read (c .before .enum-told .given .1) (c .refusal .ensures)))
 
 id-list-requires : tie.Need-id-list-requires
-id-list-requires c κs = search needs
+id-list-requires c κs = stored-rows (form c) .low .width
 
 enum-known-from : tie.Need-enum-known-from
 enum-known-from c = search needs
@@ -75,14 +98,13 @@ refusal-requires-2 c κs = search needs
 returns-2 : tie.Need-returns-2
 returns-2 c =
     let a = c .before .before .before .before .before .before .before .before .before .before .before .before .args in
-    let x = c .before .enum-told2 .given in
-    let r = c .before .before .before .id-list in
-    ends-refused _ (now (a .out)) (x .0 .0) (c .refusal2 .result)
-    (new-edge-sources-7 (now (a .src)) (length (now (a .out))) (c .before .before .before .before .before .graph .given .0 .0) (form (c .before .before .before .before)) (a .label) (now (a .sources)) (now (a .targets)) (x .0 .0 .no) (unlisted _ (r .result) (r .ensures) (x .0 .0) (x .1)))
-    (c .refusal2 .ensures ∙ ap listRefusal (x .1))
+    let s = form (c .before .before .before .before) in
+    graph-stopped (now (a .src)) (λ f. newEdgeStep f (a .label) (now (a .sources)) (now (a .targets))) (now (a .out)) s _
+    (new-edge-sources s (a .label) (now (a .sources)) (now (a .targets))
+    (list-refused _ _ (c .before .before .before .id-list .ensures _ (width (form (c .before .before .before .before)))) _ (passed-on (c .before .enum-told2 .given .1) (c .refusal2 .ensures))))
 
 id-list-requires-2 : tie.Need-id-list-requires-2
-id-list-requires-2 c κs = search needs
+id-list-requires-2 c κs = stored-rows (form (c .before .before .before .before)) .low .width
 
 enum-known-to : tie.Need-enum-known-to
 enum-known-to c = search needs
@@ -96,50 +118,38 @@ refusal-requires-3 c κs = search needs
 returns-3 : tie.Need-returns-3
 returns-3 c =
     let a = c .before .before .before .before .before .before .before .before .before .before .before .before .before .before .before .before .args in
-    let x = c .before .enum-told3 .given in
-    let r = c .before .before .before .id-list2 in
-    let p = sources (c .before .before .before .before) in
-    ends-refused _ (now (a .out)) (x .0 .0) (c .refusal3 .result)
-    (new-edge-targets-7 (now (a .src)) (length (now (a .out))) (c .before .before .before .before .before .before .before .before .before .graph .given .0 .0) (form (c .before .before .before .before .before .before .before .before)) (a .label) (now (a .sources)) (now (a .targets)) (p .entries) (p .read) (x .0 .0 .no) (unlisted _ (r .result) (r .ensures) (x .0 .0) (x .1)))
-    (c .refusal3 .ensures ∙ ap listRefusal (x .1))
+    let s = form (c .before .before .before .before .before .before .before .before) in
+    graph-stopped (now (a .src)) (λ f. newEdgeStep f (a .label) (now (a .sources)) (now (a .targets))) (now (a .out)) s _
+    (new-edge-targets s (a .label) (now (a .sources)) (now (a .targets)) (sources (c .before .before .before .before) .answers)
+    (list-refused _ _ (c .before .before .before .id-list2 .ensures _ (width (form (c .before .before .before .before .before .before .before .before)))) _ (passed-on (c .before .enum-told3 .given .1) (c .refusal3 .ensures))))
 
 add-new : tie.Need-add-new
-add-new c =
-    let h = stored-limits (form (c .before .before .before .before .before .before .before .before)) in
-    let p = sources (c .before .before .before .before) in
-    let q = targets (c) in
-    omega (arith, p .long, q .long)
+add-new c = omega (arith, short c)
 
 returns-4 : tie.Need-returns-4
 returns-4 c =
     let a = c .before .before .before .before .before .before .before .before .before .before .before .before .before .before .before .before .before .args in
     let s = form (c .before .before .before .before .before .before .before .before .before) in
-    let z = c .before .before .before .before .before .before .before .before .before .before .graph .given .0 .0 in
     let p = sources (c .before .before .before .before .before) in
     let q = targets (c .before) in
-    let many = new-edge-sizes (now (a .src)) z s (a .label) (p .entries) (q .entries) _ _ (p .many) (q .many) in
-    ends-over _ (now (a .out)) _ (new-edge-made (now (a .src)) (length (now (a .out))) z s (a .label) (now (a .sources)) (now (a .targets)) (p .entries) (p .read) (q .entries) (q .read))
-    (omega (arith, ap (λ (y : Sizes). y .ports) many, c .if1 .taken))
+    graph-over (now (a .src)) (λ f. newEdgeStep f (a .label) (now (a .sources)) (now (a .targets))) (now (a .out)) s _
+    (new-edge-next s (a .label) (now (a .sources)) (now (a .targets)) (p .answers) (q .answers))
+    (omega (arith, ap (λ y. y .ports) (new-edge-sizes s (a .label) (lent (now (a .sources)) (c .before .before .before .before .before .before .before .before .before .before .graph .given .0 .0 .width) (c .before .before .before .before .before .before .from .given .0 .0)) (lent (now (a .targets)) (c .before .before .before .before .before .before .before .before .before .before .graph .given .0 .0 .width) (c .before .before .to .given .0 .0)) _ _ (p .many) (q .many)), c .if1 .taken))
 
-add-result-size : tie.Need-add-result-size
-add-result-size c =
-    let h = stored-limits (form (c .before .before .before .before .before .before .before .before .before .before)) in
-    let p = sources (c .before .before .before .before .before .before) in
-    let q = targets (c .before .before) in
-    omega (arith, p .long, q .long)
+add-sized : tie.Need-add-sized
+add-sized c = omega (arith, stored-rows (form (c .before .before .before .before .before .before .before .before .before .before)) .low .edges)
 
-add-t22 : tie.Need-add-t22
-add-t22 c =
-    let h = stored-limits (form (c .before .before .before .before .before .before .before .before .before .before .before)) in
-    let p = sources (c .before .before .before .before .before .before .before) in
-    let q = targets (c .before .before .before) in
-    omega (arith, p .long, q .long)
+add-sized-2 : tie.Need-add-sized-2
+add-sized-2 c = omega (arith, stored-rows (form (c .before .before .before .before .before .before .before .before .before .before .before)) .low .ports, short (c .before .before .before))
+
+sized-requires : tie.Need-sized-requires
+sized-requires c κs = search needs
 
 result-size-requires : tie.Need-result-size-requires
-result-size-requires c κs = search needs
+result-size-requires c κs = rw (c .sized .ensures)
 
-enum-known-fit : tie.Need-enum-known-fit
-enum-known-fit c = search needs
+enum-known-size : tie.Need-enum-known-size
+enum-known-size c = search needs
 
 enum-told-4 : tie.Need-enum-told-4
 enum-told-4 c = search needs
@@ -148,47 +158,28 @@ refusal-requires-4 : tie.Need-refusal-requires-4
 refusal-requires-4 c κs = search needs
 
 returns-5 : tie.Need-returns-5
-returns-5 c =
-    let a = c .before .before .before .before .before .before .before .before .before .before .before .before .before .before .before .before .before .before .before .before .before .before .before .args in
-    let s = form (c .before .before .before .before .before .before .before .before .before .before .before .before .before .before .before) in
-    let z = c .before .before .before .before .before .before .before .before .before .before .before .before .before .before .before .before .graph .given .0 .0 in
-    let p = sources (c .before .before .before .before .before .before .before .before .before .before .before) in
-    let q = targets (c .before .before .before .before .before .before .before) in
-    let r = c .before .before .before .result-size in
-    let x = c .before .enum-told4 .given in
-    ends-unfit _ (now (a .out)) _ (new-edge-made (now (a .src)) (length (now (a .out))) z s (a .label) (now (a .sources)) (now (a .targets)) (p .entries) (p .read) (q .entries) (q .read)) _ (new-edge-sizes (now (a .src)) z s (a .label) (p .entries) (q .entries) _ _ (p .many) (q .many))
-    (r .result) (r .ensures) (x .0 .0) (c .refusal4 .result) (x .1) (c .refusal4 .ensures ∙ ap fitRefusal (x .1))
+returns-5 c = ends (c .before .before .before) .refuses (c .before .enum-told4 .given .1) (c .refusal4 .ensures)
 
 put-new-edge-requires : tie.Need-put-new-edge-requires
 put-new-edge-requires c κs =
-    let a = c .before .before .before .before .before .before .before .before .before .before .before .before .before .before .before .before .before .before .before .before .before .before .before .before .args in
-    let s = form (c .before .before .before .before .before .before .before .before .before .before .before .before .before .before .before .before) in
-    let z = c .before .before .before .before .before .before .before .before .before .before .before .before .before .before .before .before .before .graph .given .0 .0 in
-    let p = sources (c .before .before .before .before .before .before .before .before .before .before .before .before) in
-    let q = targets (c .before .before .before .before .before .before .before .before) in
-    let r = c .before .before .before .before .result-size in
-    let x = c .before .before .fit .given in
-    let long = stored-sections s .long in
-    let l = stored-limits s in
-    let h = ends-room _ (now (a .out)) _ (new-edge-made (now (a .src)) (length (now (a .out))) z s (a .label) (now (a .sources)) (now (a .targets)) (p .entries) (p .read) (q .entries) (q .read)) _ (new-edge-sizes (now (a .src)) z s (a .label) (p .entries) (q .entries) _ _ (p .many) (q .many))
-    (r .result) (r .ensures) (x .0 .0) (x .1) in
-    (l .nodes, l .edges, l .ports, omega arith, omega (arith, h .room, p .long, q .long), omega (arith, h .ports, h .within .nodes, p .long), omega (arith, h .ports, h .within .nodes, q .long), h .within)
+    let y = c .before .before .before .before .before .sized .ensures in
+    let room = ends (c .before .before .before .before) .room (c .before .before .size .given .1) in (
+      stored-rows (form (c .before .before .before .before .before .before .before .before .before .before .before .before .before .before .before .before .before)),
+      room,
+      ap (λ y. y .nodes) y,
+      ap (λ y. y .edges) y,
+      omega (arith, ap bodySize y),
+      omega (arith, room .low .ports, ap (λ y. y .ports) y),
+      omega (arith, room .low .ports, ap (λ y. y .ports) y),
+      sources (c .before .before .before .before .before .before .before .before .before .before .before .before .before) .there,
+      targets (c .before .before .before .before .before .before .before .before .before) .there,
+    )
 
 same-length : tie.Need-same-length
-same-length c = search needs
+same-length c = c .before .before .put-new-edge .kept .0
 
 returns-6 : tie.Need-returns-6
-returns-6 c =
-    let a = c .before .before .before .before .before .before .before .before .before .before .before .before .before .before .before .before .before .before .before .before .before .before .before .before .before .before .before .args in
-    let s = form (c .before .before .before .before .before .before .before .before .before .before .before .before .before .before .before .before .before .before .before) in
-    let z = c .before .before .before .before .before .before .before .before .before .before .before .before .before .before .before .before .before .before .before .before .graph .given .0 .0 in
-    let p = sources (c .before .before .before .before .before .before .before .before .before .before .before .before .before .before .before) in
-    let q = targets (c .before .before .before .before .before .before .before .before .before .before .before) in
-    let r = c .before .before .before .before .before .before .before .result-size in
-    let x = c .before .before .before .before .before .fit .given in
-    let w = c .before .before .put-new-edge in
-    ends-done _ (now (a .out)) _ (new-edge-made (now (a .src)) (length (now (a .out))) z s (a .label) (now (a .sources)) (now (a .targets)) (p .entries) (p .read) (q .entries) (q .read)) _ (new-edge-sizes (now (a .src)) z s (a .label) (p .entries) (q .entries) _ _ (p .many) (q .many))
-    (r .result) (r .ensures) (x .0 .0) (x .1) (w .last .0) _ (w .ensures) (new-edge-form (now (a .src)) z s (a .label) (p .entries) (q .entries) _ (new-edge-sizes (now (a .src)) z s (a .label) (p .entries) (q .entries) _ _ (p .many) (q .many)) _ (edge-row (a .label) (p .entries) (q .entries) _ _ (p .many) (q .many) (now (a .sources)) (now (a .targets)) (p .long) (q .long) (p .row-is) (q .row-is)))
+returns-6 c = ends (c .before .before .before .before .before .before .before) .done (c .before .before .before .before .before .size .given .1) (c .before .before .put-new-edge .ensures)
 
 pub new-edge-spec : {M : Type 1} → statement M
 new-edge-spec =
@@ -211,10 +202,11 @@ new-edge-spec =
     returns-3
     add-new
     returns-4
-    add-result-size
-    add-t22
+    add-sized
+    add-sized-2
+    sized-requires
     result-size-requires
-    enum-known-fit
+    enum-known-size
     enum-told-4
     refusal-requires-4
     returns-5

@@ -2,19 +2,18 @@
 -- Assumes nothing.
 use mathlib.Core.Path.{ap, _∙_}
 use native.Mathlib.Omega.{arith}
-use lib.ListN.{length}
 use denote.Ref.{now}
+use lib.ListN.{length}
 use borrow.Author.Needs.{needs}
-use Rattle.form.specs.Form.{readRefusal, fitRefusal}
-use Rattle.graph.specs.Calls.{newNodeStep}
-use Rattle.graph.specs.Graph.{form1}
-use Rattle.form.proofs.Sections.{stored-sections}
-use Rattle.form.proofs.Whole.{Stored, stored-graph, stored-limits, unread}
-use Rattle.graph.proofs.Verdicts.{call-unread}
+use Rattle.graph.specs.Build.{newNode}
+use Rattle.graph.specs.Calls.{newNodeCall, newNodeStep}
+use Rattle.form.specs.Stored.{Stored, graphOf}
+use Rattle.form.proofs.Stored.{stored, unread, stored-rows}
 use Rattle.le.proofs.Numbers.{below-each}
-use Rattle.hypergraph.proofs.Calls.{new-node-made}
-use Rattle.hypergraph.proofs.Ends.{ends-refused, ends-unfit, ends-room, ends-done}
-use Rattle.hypergraph.proofs.Forms.{new-node-sizes, new-node-form}
+use Rattle.form.specs.Form.{bodySize}
+use Rattle.write.proofs.Calls.{graph-unread}
+use Rattle.hypergraph.proofs.Bodies.{new-node-sizes}
+use Rattle.hypergraph.proofs.Calls.{Ends, graph-ends, passed-read, new-node-next}
 use Rattle.hypergraph.proofs.new_node.Statement.{statement}
 use Rattle.hypergraph.proofs.new_node.Tie as tie
 
@@ -22,8 +21,17 @@ use Rattle.hypergraph.proofs.new_node.Tie as tie
 form : (c : tie.After-known-told) → Stored (now (c .before .before .before .before .before .before .args .src)) (c .before .graph .given .0 .0)
 form c =
     let b = now (c .before .before .before .before .before .before .args .src) in
-    stored-graph b (below-each 256 b (λ i l. omega (arith, c .before .before .before .before .before .shared-slice-known .given i)))
-    (c .before .before .before .read .result) (c .before .before .before .read .ensures) (c .before .graph .given .0 .0) (c .before .graph .given .1)
+    stored b (c .before .before .before .read .result) (c .before .before .before .read .ensures)
+    (below-each 256 b (λ i l. omega (arith, c .before .before .before .before .before .shared-slice-known .given i)))
+    (c .before .graph .given .0 .0) (c .before .graph .given .1)
+
+ends : (c : tie.After-result-size) → Ends (newNodeCall (now (c .before .before .before .before .before .before .before .before .before .args .src)) (c .before .before .before .before .before .before .before .before .before .args .label) (length (now (c .before .before .before .before .before .before .before .before .before .args .out)))) (now (c .before .before .before .before .before .before .before .before .before .args .out))
+    (c .before .sized .result) (c .result-size .result) (newNode (c .before .before .before .before .before .before .before .before .before .args .label) (graphOf (now (c .before .before .before .before .before .before .before .before .before .args .src)))) (c .before .before .before .before .graph .given .0 .0 .nodes)
+ends c =
+    let a = c .before .before .before .before .before .before .before .before .before .args in
+    let s = form (c .before .before .before) in
+    graph-ends (now (a .out)) _ _ (c .before .sized .ensures ∙ new-node-sizes s (a .label)) (c .result-size .ensures)
+    (now (a .src)) (λ f. newNodeStep (a .label)) s (new-node-next s (a .label))
 
 read-requires : tie.Need-read-requires
 read-requires c κs = search needs
@@ -41,22 +49,20 @@ returns : tie.Need-returns
 returns c =
     let a = c .before .before .before .before .before .before .args in
     let b = now (a .src) in
-    let r = c .before .before .before .read in
-    let x = c .before .enum-told .given in
-    ends-refused _ (now (a .out)) (x .0 .0) (c .refusal .result)
-    (call-unread form1 b (length (now (a .out))) (newNodeStep (a .label)) (x .0 .0 .no) (unread b (r .result) (r .ensures) (x .0 .0) (x .1)))
-    (c .refusal .ensures ∙ ap readRefusal (x .1))
+    graph-unread b (λ f. newNodeStep (a .label)) (now (a .out)) _
+    (unread b (c .before .before .before .read .result) (c .before .before .before .read .ensures) _ (passed-read (c .before .enum-told .given .1) (c .refusal .ensures)))
 
-add-result-size : tie.Need-add-result-size
-add-result-size c =
-    let h = stored-limits (form (c .before)) in
-    omega arith
+add-sized : tie.Need-add-sized
+add-sized c = omega (arith, stored-rows (form (c .before)) .low .nodes)
+
+sized-requires : tie.Need-sized-requires
+sized-requires c κs = search needs
 
 result-size-requires : tie.Need-result-size-requires
-result-size-requires c κs = search needs
+result-size-requires c κs = rw (c .sized .ensures)
 
-enum-known-fit : tie.Need-enum-known-fit
-enum-known-fit c = search needs
+enum-known-size : tie.Need-enum-known-size
+enum-known-size c = search needs
 
 enum-told-2 : tie.Need-enum-told-2
 enum-told-2 c = search needs
@@ -65,40 +71,18 @@ refusal-requires-2 : tie.Need-refusal-requires-2
 refusal-requires-2 c κs = search needs
 
 returns-2 : tie.Need-returns-2
-returns-2 c =
-    let a = c .before .before .before .before .before .before .before .before .before .before .before .args in
-    let s = form (c .before .before .before .before .before) in
-    let z = c .before .before .before .before .before .before .graph .given .0 .0 in
-    let r = c .before .before .before .result-size in
-    let x = c .before .enum-told2 .given in
-    ends-unfit _ (now (a .out)) _ (new-node-made (now (a .src)) (length (now (a .out))) z s (a .label)) _ (new-node-sizes (now (a .src)) z s (a .label))
-    (r .result) (r .ensures) (x .0 .0) (c .refusal2 .result) (x .1) (c .refusal2 .ensures ∙ ap fitRefusal (x .1))
+returns-2 c = ends (c .before .before .before) .refuses (c .before .enum-told2 .given .1) (c .refusal2 .ensures)
 
-put-node-requires : tie.Need-put-node-requires
-put-node-requires c κs =
-    let a = c .before .before .before .before .before .before .before .before .before .before .before .before .args in
-    let s = form (c .before .before .before .before .before .before) in
-    let z = c .before .before .before .before .before .before .before .graph .given .0 .0 in
-    let r = c .before .before .before .before .result-size in
-    let x = c .before .before .fit .given in
-    let long = stored-sections s .long in
-    let h = ends-room _ (now (a .out)) _ (new-node-made (now (a .src)) (length (now (a .out))) z s (a .label)) _ (new-node-sizes (now (a .src)) z s (a .label))
-    (r .result) (r .ensures) (x .0 .0) (x .1) in
-    (omega arith, omega arith, omega (arith, h .room), h .within)
+put-new-node-requires : tie.Need-put-new-node-requires
+put-new-node-requires c κs =
+    let y = c .before .before .before .before .before .sized .ensures in
+    (form (c .before .before .before .before .before .before .before), ends (c .before .before .before .before) .room (c .before .before .size .given .1), omega (arith, ap (λ y. y .nodes) y, ap (λ y. y .edges) y), omega (arith, ap bodySize y))
 
 same-length : tie.Need-same-length
-same-length c = search needs
+same-length c = c .before .before .put-new-node .kept .0
 
 returns-3 : tie.Need-returns-3
-returns-3 c =
-    let a = c .before .before .before .before .before .before .before .before .before .before .before .before .before .before .before .args in
-    let s = form (c .before .before .before .before .before .before .before .before .before) in
-    let z = c .before .before .before .before .before .before .before .before .before .before .graph .given .0 .0 in
-    let r = c .before .before .before .before .before .before .before .result-size in
-    let x = c .before .before .before .before .before .fit .given in
-    let w = c .before .before .put-node in
-    ends-done _ (now (a .out)) _ (new-node-made (now (a .src)) (length (now (a .out))) z s (a .label)) _ (new-node-sizes (now (a .src)) z s (a .label))
-    (r .result) (r .ensures) (x .0 .0) (x .1) (w .last .0) _ (w .ensures) (new-node-form (now (a .src)) z s (a .label) _ (new-node-sizes (now (a .src)) z s (a .label)))
+returns-3 c = ends (c .before .before .before .before .before .before .before) .done (c .before .before .before .before .before .size .given .1) (c .before .before .put-new-node .ensures)
 
 pub new-node-spec : {M : Type 1} → statement M
 new-node-spec =
@@ -109,12 +93,13 @@ new-node-spec =
     enum-told
     refusal-requires
     returns
-    add-result-size
+    add-sized
+    sized-requires
     result-size-requires
-    enum-known-fit
+    enum-known-size
     enum-told-2
     refusal-requires-2
     returns-2
-    put-node-requires
+    put-new-node-requires
     same-length
     returns-3)

@@ -1,22 +1,25 @@
 -- `hypergraph::new_operation` meets its contract.
 -- Assumes nothing.
-use mathlib.Core.Path.{ap, _∙_}
-use Prim.Native.Nat.{_≤_, _+_}
+use mathlib.Core.Path.{refl, ap, _∙_}
+use mathlib.Core.Logic.{inr}
+use Prim.Native.Nat.{_+_, _<_, _^_}
 use native.Mathlib.Omega.{arith}
-use lib.ListN.{length}
 use denote.Ref.{now}
+use lib.ListN.{length}
 use borrow.Author.Needs.{needs}
-use Rattle.form.specs.Form.{readRefusal, listRefusal, fitRefusal}
-use Rattle.graph.specs.Calls.{labelList, newOperationStep}
-use Rattle.graph.specs.Graph.{form1}
-use Rattle.form.proofs.Sections.{stored-sections}
-use Rattle.form.proofs.Whole.{Stored, stored-graph, stored-limits, unread}
-use Rattle.graph.proofs.Verdicts.{call-unread}
+use Rattle.graph.specs.Build.{newOperation}
+use Rattle.graph.specs.Calls.{newOperationCall, newOperationStep, labelList}
 use Rattle.le.proofs.Numbers.{below-each}
-use Rattle.hypergraph.proofs.Calls.{new-operation-sources-7, new-operation-targets-7, new-operation-made}
-use Rattle.hypergraph.proofs.Ends.{ends-refused, ends-unfit, ends-room, ends-done}
-use Rattle.hypergraph.proofs.Forms.{new-operation-sizes, new-operation-form}
-use Rattle.hypergraph.proofs.Listed.{Row, unlisted, labels-listed, half4}
+use Rattle.le.proofs.Rows.{holds-index}
+use Rattle.form.specs.Form.{bodySize}
+use Rattle.form.specs.Stored.{Stored, graphOf}
+use Rattle.form.proofs.Answers.{list-refused}
+use Rattle.form.proofs.Stored.{stored, unread, stored-rows}
+use Rattle.write.proofs.Calls.{graph-unread, graph-stopped}
+use Rattle.hypergraph.specs.Lent.{lent}
+use Rattle.hypergraph.proofs.Bodies.{new-operation-sizes}
+use Rattle.hypergraph.proofs.Calls.{Ends, graph-ends, passed-read, passed-on, new-operation-sources, new-operation-targets, new-operation-next}
+use Rattle.hypergraph.proofs.Listed.{Given, labels-given}
 use Rattle.hypergraph.proofs.new_operation.Statement.{statement}
 use Rattle.hypergraph.proofs.new_operation.Tie as tie
 
@@ -24,23 +27,39 @@ use Rattle.hypergraph.proofs.new_operation.Tie as tie
 form : (c : tie.After-known-told) → Stored (now (c .before .before .before .before .before .before .before .before .args .src)) (c .before .graph .given .0 .0)
 form c =
     let b = now (c .before .before .before .before .before .before .before .before .args .src) in
-    stored-graph b (below-each 256 b (λ i l. omega (arith, c .before .before .before .before .before .before .before .shared-slice-known .given i)))
-    (c .before .before .before .read .result) (c .before .before .before .read .ensures) (c .before .graph .given .0 .0) (c .before .graph .given .1)
+    stored b (c .before .before .before .read .result) (c .before .before .before .read .ensures)
+    (below-each 256 b (λ i l. omega (arith, c .before .before .before .before .before .before .before .shared-slice-known .given i)))
+    (c .before .graph .given .0 .0) (c .before .graph .given .1)
 
 -- the lists in the call
-sources : (c : tie.After-known-told2) → Row 4 (now (c .before .before .before .before .before .before .before .before .before .before .before .before .args .sources)) (labelList (now (c .before .before .before .before .before .before .before .before .before .before .before .before .args .sources))) (c .before .from .given .0 .0)
+sources : (c : tie.After-known-told2) → Given
+    (labelList (now (c .before .before .before .before .before .before .before .before .before .before .before .before .args .sources))) (now (c .before .before .before .before .before .before .before .before .before .before .before .before .args .sources)) 4 (c .before .from .given .0 .0)
 sources c =
-    let b = now (c .before .before .before .before .before .before .before .before .before .before .before .before .args .sources) in
-    labels-listed b (below-each 256 b (λ i l. omega (arith, c .before .before .before .before .before .before .before .before .before .before .shared-slice-known2 .given i))) (c .before .before .before .label-list .result) (c .before .from .given .0 .0) (c .before .from .given .1) (c .before .before .before .label-list .ensures)
+    labels-given _ (c .before .before .before .label-list .result) _ (c .before .from .given .1) (inr refl) (c .before .before .before .label-list .ensures)
 
-targets : (c : tie.After-known-told3) → Row 4 (now (c .before .before .before .before .before .before .before .before .before .before .before .before .before .before .before .before .args .targets)) (labelList (now (c .before .before .before .before .before .before .before .before .before .before .before .before .before .before .before .before .args .targets))) (c .before .to .given .0 .0)
+targets : (c : tie.After-known-told3) → Given
+    (labelList (now (c .before .before .before .before .before .before .before .before .before .before .before .before .before .before .before .before .args .targets))) (now (c .before .before .before .before .before .before .before .before .before .before .before .before .before .before .before .before .args .targets)) 4 (c .before .to .given .0 .0)
 targets c =
-    let b = now (c .before .before .before .before .before .before .before .before .before .before .before .before .before .before .before .before .args .targets) in
-    labels-listed b (below-each 256 b (λ i l. omega (arith, c .before .before .before .before .before .before .before .before .before .before .before .before .before .shared-slice-known3 .given i))) (c .before .before .before .label-list2 .result) (c .before .to .given .0 .0) (c .before .to .given .1) (c .before .before .before .label-list2 .ensures)
+    labels-given _ (c .before .before .before .label-list2 .result) _ (c .before .to .given .1) (inr refl) (c .before .before .before .label-list2 .ensures)
 
--- their number is no sum that wraps
-few : (c : tie.After-known-told3) → c .before .before .before .before .before .from .given .0 .0 + c .before .to .given .0 .0 ≤ 9223372036854775808
-few c = omega (arith, sources (c .before .before .before .before) .long, targets c .long)
+-- they are not so long that sums wrap
+short : (c : tie.After-known-told3) → c .before .before .before .before .before .from .given .0 .0 + c .before .to .given .0 .0 < 2 ^ 63
+short c = omega (arith, holds-index (sources (c .before .before .before .before) .there), holds-index (targets c .there))
+
+ends : (c : tie.After-result-size) → Ends (newOperationCall (now (c .before .before .before .before .before .before .before .before .before .before .before .before .before .before .before .before .before .before .before .before .before .args .src)) (c .before .before .before .before .before .before .before .before .before .before .before .before .before .before .before .before .before .before .before .before .before .args .label)
+    (now (c .before .before .before .before .before .before .before .before .before .before .before .before .before .before .before .before .before .before .before .before .before .args .sources)) (now (c .before .before .before .before .before .before .before .before .before .before .before .before .before .before .before .before .before .before .before .before .before .args .targets)) (length (now (c .before .before .before .before .before .before .before .before .before .before .before .before .before .before .before .before .before .before .before .before .before .args .out)))) (now (c .before .before .before .before .before .before .before .before .before .before .before .before .before .before .before .before .before .before .before .before .before .args .out))
+    (c .before .sized .result) (c .result-size .result)
+    (newOperation (c .before .before .before .before .before .before .before .before .before .before .before .before .before .before .before .before .before .before .before .before .before .args .label) (lent (now (c .before .before .before .before .before .before .before .before .before .before .before .before .before .before .before .before .before .before .before .before .before .args .sources)) 4 (c .before .before .before .before .before .before .before .before .before .before .from .given .0 .0))
+    (lent (now (c .before .before .before .before .before .before .before .before .before .before .before .before .before .before .before .before .before .before .before .before .before .args .targets)) 4 (c .before .before .before .before .before .before .to .given .0 .0))
+    (graphOf (now (c .before .before .before .before .before .before .before .before .before .before .before .before .before .before .before .before .before .before .before .before .before .args .src)))) (c .before .before .before .before .before .before .before .before .before .before .before .before .before .before .graph .given .0 .0 .edges)
+ends c =
+    let a = c .before .before .before .before .before .before .before .before .before .before .before .before .before .before .before .before .before .before .before .before .before .args in
+    let s = form (c .before .before .before .before .before .before .before .before .before .before .before .before .before) in
+    let p = sources (c .before .before .before .before .before .before .before .before .before) in
+    let q = targets (c .before .before .before .before .before) in
+    graph-ends (now (a .out)) _ _ (c .before .sized .ensures ∙ new-operation-sizes s (a .label) _ _ _ _ (p .many) (q .many)) (c .result-size .ensures)
+    (now (a .src)) (λ f. newOperationStep (a .label) (now (a .sources)) (now (a .targets))) s
+    (new-operation-next s (a .label) (now (a .sources)) (now (a .targets)) (p .answers) (q .answers))
 
 read-requires : tie.Need-read-requires
 read-requires c κs = search needs
@@ -58,11 +77,8 @@ returns : tie.Need-returns
 returns c =
     let a = c .before .before .before .before .before .before .before .before .args in
     let b = now (a .src) in
-    let r = c .before .before .before .read in
-    let x = c .before .enum-told .given in
-    ends-refused _ (now (a .out)) (x .0 .0) (c .refusal .result)
-    (call-unread form1 b (length (now (a .out))) (newOperationStep (a .label) (now (a .sources)) (now (a .targets))) (x .0 .0 .no) (unread b (r .result) (r .ensures) (x .0 .0) (x .1)))
-    (c .refusal .ensures ∙ ap readRefusal (x .1))
+    graph-unread b (λ f. newOperationStep (a .label) (now (a .sources)) (now (a .targets))) (now (a .out)) _
+    (unread b (c .before .before .before .read .result) (c .before .before .before .read .ensures) _ (passed-read (c .before .enum-told .given .1) (c .refusal .ensures)))
 
 label-list-requires : tie.Need-label-list-requires
 label-list-requires c κs = search needs
@@ -79,11 +95,10 @@ refusal-requires-2 c κs = search needs
 returns-2 : tie.Need-returns-2
 returns-2 c =
     let a = c .before .before .before .before .before .before .before .before .before .before .before .before .args in
-    let x = c .before .enum-told2 .given in
-    let r = c .before .before .before .label-list in
-    ends-refused _ (now (a .out)) (x .0 .0) (c .refusal2 .result)
-    (new-operation-sources-7 (now (a .src)) (length (now (a .out))) (c .before .before .before .before .before .graph .given .0 .0) (form (c .before .before .before .before)) (a .label) (now (a .sources)) (now (a .targets)) (x .0 .0 .no) (unlisted _ (r .result) (r .ensures) (x .0 .0) (x .1)))
-    (c .refusal2 .ensures ∙ ap listRefusal (x .1))
+    let s = form (c .before .before .before .before) in
+    graph-stopped (now (a .src)) (λ f. newOperationStep (a .label) (now (a .sources)) (now (a .targets))) (now (a .out)) s _
+    (new-operation-sources s (a .label) (now (a .sources)) (now (a .targets))
+    (list-refused _ _ (c .before .before .before .label-list .ensures) _ (passed-on (c .before .enum-told2 .given .1) (c .refusal2 .ensures))))
 
 label-list-requires-2 : tie.Need-label-list-requires-2
 label-list-requires-2 c κs = search needs
@@ -100,38 +115,31 @@ refusal-requires-3 c κs = search needs
 returns-3 : tie.Need-returns-3
 returns-3 c =
     let a = c .before .before .before .before .before .before .before .before .before .before .before .before .before .before .before .before .args in
-    let x = c .before .enum-told3 .given in
-    let r = c .before .before .before .label-list2 in
-    let p = sources (c .before .before .before .before) in
-    ends-refused _ (now (a .out)) (x .0 .0) (c .refusal3 .result)
-    (new-operation-targets-7 (now (a .src)) (length (now (a .out))) (c .before .before .before .before .before .before .before .before .before .graph .given .0 .0) (form (c .before .before .before .before .before .before .before .before)) (a .label) (now (a .sources)) (now (a .targets)) (p .entries) (p .read) (x .0 .0 .no) (unlisted _ (r .result) (r .ensures) (x .0 .0) (x .1)))
-    (c .refusal3 .ensures ∙ ap listRefusal (x .1))
+    let s = form (c .before .before .before .before .before .before .before .before) in
+    graph-stopped (now (a .src)) (λ f. newOperationStep (a .label) (now (a .sources)) (now (a .targets))) (now (a .out)) s _
+    (new-operation-targets s (a .label) (now (a .sources)) (now (a .targets)) (sources (c .before .before .before .before) .answers)
+    (list-refused _ _ (c .before .before .before .label-list2 .ensures) _ (passed-on (c .before .enum-told3 .given .1) (c .refusal3 .ensures))))
 
 add-new : tie.Need-add-new
-add-new c =
-    let h = stored-limits (form (c .before .before .before .before .before .before .before .before)) in
-    omega (arith, few c)
+add-new c = omega (arith, short c)
 
-add-result-size : tie.Need-add-result-size
-add-result-size c =
-    let h = stored-limits (form (c .before .before .before .before .before .before .before .before .before)) in
-    omega (arith, few (c .before))
+add-sized : tie.Need-add-sized
+add-sized c = omega (arith, stored-rows (form (c .before .before .before .before .before .before .before .before .before)) .low .nodes, short (c .before))
 
-add-t20 : tie.Need-add-t20
-add-t20 c =
-    let h = stored-limits (form (c .before .before .before .before .before .before .before .before .before .before)) in
-    omega (arith, few (c .before .before))
+add-sized-2 : tie.Need-add-sized-2
+add-sized-2 c = omega (arith, stored-rows (form (c .before .before .before .before .before .before .before .before .before .before)) .low .edges)
 
-add-t21 : tie.Need-add-t21
-add-t21 c =
-    let h = stored-limits (form (c .before .before .before .before .before .before .before .before .before .before .before)) in
-    omega (arith, few (c .before .before .before))
+add-sized-3 : tie.Need-add-sized-3
+add-sized-3 c = omega (arith, stored-rows (form (c .before .before .before .before .before .before .before .before .before .before .before)) .low .ports, short (c .before .before .before))
+
+sized-requires : tie.Need-sized-requires
+sized-requires c κs = search needs
 
 result-size-requires : tie.Need-result-size-requires
-result-size-requires c κs = search needs
+result-size-requires c κs = rw (c .sized .ensures)
 
-enum-known-fit : tie.Need-enum-known-fit
-enum-known-fit c = search needs
+enum-known-size : tie.Need-enum-known-size
+enum-known-size c = search needs
 
 enum-told-4 : tie.Need-enum-told-4
 enum-told-4 c = search needs
@@ -140,47 +148,26 @@ refusal-requires-4 : tie.Need-refusal-requires-4
 refusal-requires-4 c κs = search needs
 
 returns-4 : tie.Need-returns-4
-returns-4 c =
-    let a = c .before .before .before .before .before .before .before .before .before .before .before .before .before .before .before .before .before .before .before .before .before .before .before .args in
-    let s = form (c .before .before .before .before .before .before .before .before .before .before .before .before .before .before .before) in
-    let z = c .before .before .before .before .before .before .before .before .before .before .before .before .before .before .before .before .graph .given .0 .0 in
-    let p = sources (c .before .before .before .before .before .before .before .before .before .before .before) in
-    let q = targets (c .before .before .before .before .before .before .before) in
-    let r = c .before .before .before .result-size in
-    let x = c .before .enum-told4 .given in
-    ends-unfit _ (now (a .out)) _ (new-operation-made (now (a .src)) (length (now (a .out))) z s (a .label) (now (a .sources)) (now (a .targets)) (p .entries) (p .read) (q .entries) (q .read)) _ (new-operation-sizes (now (a .src)) z s (a .label) (p .entries) (q .entries) _ _ (p .many) (q .many))
-    (r .result) (r .ensures) (x .0 .0) (c .refusal4 .result) (x .1) (c .refusal4 .ensures ∙ ap fitRefusal (x .1))
+returns-4 c = ends (c .before .before .before) .refuses (c .before .enum-told4 .given .1) (c .refusal4 .ensures)
 
 put-new-operation-requires : tie.Need-put-new-operation-requires
 put-new-operation-requires c κs =
-    let a = c .before .before .before .before .before .before .before .before .before .before .before .before .before .before .before .before .before .before .before .before .before .before .before .before .args in
-    let s = form (c .before .before .before .before .before .before .before .before .before .before .before .before .before .before .before .before) in
-    let z = c .before .before .before .before .before .before .before .before .before .before .before .before .before .before .before .before .before .graph .given .0 .0 in
-    let p = sources (c .before .before .before .before .before .before .before .before .before .before .before .before) in
-    let q = targets (c .before .before .before .before .before .before .before .before) in
-    let r = c .before .before .before .before .result-size in
-    let x = c .before .before .fit .given in
-    let long = stored-sections s .long in
-    let l = stored-limits s in
-    let h = ends-room _ (now (a .out)) _ (new-operation-made (now (a .src)) (length (now (a .out))) z s (a .label) (now (a .sources)) (now (a .targets)) (p .entries) (p .read) (q .entries) (q .read)) _ (new-operation-sizes (now (a .src)) z s (a .label) (p .entries) (q .entries) _ _ (p .many) (q .many))
-    (r .result) (r .ensures) (x .0 .0) (x .1) in
-    (l .nodes, l .edges, l .ports, omega arith, omega (arith, h .room, p .long, q .long), omega (arith, h .ports, h .within .nodes, p .long), omega (arith, h .ports, h .within .nodes, q .long), h .within)
+    let y = c .before .before .before .before .before .sized .ensures in
+    let room = ends (c .before .before .before .before) .room (c .before .before .size .given .1) in (
+      stored-rows (form (c .before .before .before .before .before .before .before .before .before .before .before .before .before .before .before .before .before)),
+      room,
+      ap (λ y. y .nodes) y,
+      ap (λ y. y .edges) y,
+      omega (arith, ap bodySize y),
+      sources (c .before .before .before .before .before .before .before .before .before .before .before .before .before) .there,
+      targets (c .before .before .before .before .before .before .before .before .before) .there,
+    )
 
 same-length : tie.Need-same-length
-same-length c = search needs
+same-length c = c .before .before .put-new-operation .kept .0
 
 returns-5 : tie.Need-returns-5
-returns-5 c =
-    let a = c .before .before .before .before .before .before .before .before .before .before .before .before .before .before .before .before .before .before .before .before .before .before .before .before .before .before .before .args in
-    let s = form (c .before .before .before .before .before .before .before .before .before .before .before .before .before .before .before .before .before .before .before) in
-    let z = c .before .before .before .before .before .before .before .before .before .before .before .before .before .before .before .before .before .before .before .before .graph .given .0 .0 in
-    let p = sources (c .before .before .before .before .before .before .before .before .before .before .before .before .before .before .before) in
-    let q = targets (c .before .before .before .before .before .before .before .before .before .before .before) in
-    let r = c .before .before .before .before .before .before .before .result-size in
-    let x = c .before .before .before .before .before .fit .given in
-    let w = c .before .before .put-new-operation in
-    ends-done _ (now (a .out)) _ (new-operation-made (now (a .src)) (length (now (a .out))) z s (a .label) (now (a .sources)) (now (a .targets)) (p .entries) (p .read) (q .entries) (q .read)) _ (new-operation-sizes (now (a .src)) z s (a .label) (p .entries) (q .entries) _ _ (p .many) (q .many))
-    (r .result) (r .ensures) (x .0 .0) (x .1) (w .last .0) _ (w .ensures) (new-operation-form (now (a .src)) z s (a .label) (p .entries) (q .entries) _ _ (half4 (now (a .sources)) (p .entries) _ (p .many) (p .long)) (half4 (now (a .targets)) (q .entries) _ (q .many) (q .long)) _ (new-operation-sizes (now (a .src)) z s (a .label) (p .entries) (q .entries) _ _ (p .many) (q .many)) (now (a .sources)) (now (a .targets)) (p .row-is) (q .row-is))
+returns-5 c = ends (c .before .before .before .before .before .before .before) .done (c .before .before .before .before .before .size .given .1) (c .before .before .put-new-operation .ensures)
 
 pub new-operation-spec : {M : Type 1} → statement M
 new-operation-spec =
@@ -202,11 +189,12 @@ new-operation-spec =
     refusal-requires-3
     returns-3
     add-new
-    add-result-size
-    add-t20
-    add-t21
+    add-sized
+    add-sized-2
+    add-sized-3
+    sized-requires
     result-size-requires
-    enum-known-fit
+    enum-known-size
     enum-told-4
     refusal-requires-4
     returns-4

@@ -1,31 +1,43 @@
 -- `hypergraph::put_head` meets its contract.
 -- Assumes nothing.
-use mathlib.Core.Path.{refl}
-use lib.ListN.{take, drop}
+use mathlib.Core.List.{[]}
+use mathlib.Core.Path.{refl, sym, _∙_}
+use native.Mathlib.Omega.{arith}
 use denote.Ref.{now}
 use borrow.Author.Needs.{needs}
-use Rattle.form.specs.Form.{countsOf}
-use Rattle.graph.specs.Form.{header}
-use Rattle.graph.specs.Graph.{form1}
-use Rattle.hypergraph.proofs.Parts.{sets-then}
+use Rattle.le.specs.Rows.{span}
+use Rattle.le.proofs.Rows.{holds-less}
+use Rattle.write.proofs.Results.{drawn-start}
+use Rattle.hypergraph.proofs.Drawn.{more-labels}
+use Rattle.hypergraph.proofs.Held.{held}
 use Rattle.hypergraph.proofs.put_head.Statement.{statement}
 use Rattle.hypergraph.proofs.put_head.Tie as tie
 
 put-header-requires : tie.Need-put-header-requires
 put-header-requires c κs = search needs
 
-copy-requires : tie.Need-copy-requires
-copy-requires c κs = search needs
+label-row-requires : tie.Need-label-row-requires
+label-row-requires c κs = c .before .before .before .before .before .before .before .pre .0 .low
+
+copy-numbers-requires : tie.Need-copy-numbers-requires
+copy-numbers-requires c κs = (held (c .before .before .before .before .before .before .before .before .pre .0 .labels) _ (c .label-row .ensures) _ (c .before .before .before .before .put-header .kept .0) _ (omega arith), holds-less (c .before .before .before .before .before .before .before .before .pre .1) _ (omega arith))
 
 same-length : tie.Need-same-length
-same-length c = search needs
+same-length c = c .before .before .copy-numbers .kept .0 ∙ c .before .before .before .before .before .before .before .put-header .kept .0
 
 returns : tie.Need-returns
 returns c =
-    let a = c .before .before .before .before .before .before .before .before .before .before .args in
-    let x = c .before .before .before .before .before .before .put-header in
-    let y = c .before .before .copy in
-    sets-then (now (a .out)) (x .last .0) (y .last .0) (header form1 (countsOf (a .y))) (take (a .n) (drop 15 (now (a .src)))) 0 15 (x .ensures) refl (y .ensures)
+    let a = c .before .before .before .before .before .before .before .before .before .before .before .args in
+    let old = now (a .out) in
+    more-labels old (a .y) [] (span (now (a .src)) (a .labels) 0 (a .n)) (c .before .before .before .before .before .before .before .put-header .ensures ∙ sym (drawn-start old (a .y)))
+    (c .before .before .copy-numbers .ensures) (c .before .before .before .label-row .ensures) refl refl
 
 pub put-head-spec : {M : Type 1} → statement M
-put-head-spec = tie.close (tie.spec put-header-requires copy-requires same-length returns)
+put-head-spec =
+    tie.close
+    (tie.spec
+    put-header-requires
+    label-row-requires
+    copy-numbers-requires
+    same-length
+    returns)

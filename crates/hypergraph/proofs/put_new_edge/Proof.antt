@@ -1,102 +1,95 @@
 -- `hypergraph::put_new_edge` meets its contract.
 -- Assumes nothing.
-use mathlib.Core.List.{[], _∷_, _++_}
-use mathlib.Core.Path.{_≡_, ap, _∙_}
-use Prim.Native.Nat.{_+_, _*_, _-_, _/_, _≤_}
+use mathlib.Core.List.{List, [], _∷_, _++_, map}
+use mathlib.Core.Path.{_∙_, refl, sym, ap}
+use Prim.Native.Nat.{ℕ}
 use native.Mathlib.Omega.{arith}
-use lib.ListN.{length, take, drop, length-append}
-use lib.Seq.{sets}
 use denote.Ref.{now}
-use borrow.Author.Needs.{needs}
-use Rattle.form.specs.Form.{countsOf, edgesAt, listsAt}
-use Rattle.graph.specs.Form.{header}
-use Rattle.graph.specs.Graph.{form1}
-use Rattle.le.specs.Le.{bytes, row}
-use Rattle.hypergraph.proofs.Parts.{length-head, length-more-edges, part-rest, sets-then}
+use Rattle.le.specs.Rows.{span, rowAt}
+use Rattle.le.proofs.Rows.{length-span}
+use Rattle.graph.specs.Form.{edgeRow}
+use Rattle.graph.specs.Graph.{Edge}
+use Rattle.graph.specs.Lists.{joined}
+use Rattle.form.specs.Stored.{graphOf}
+use Rattle.write.specs.Write.{drawn}
+use Rattle.hypergraph.specs.Lent.{lent}
+use Rattle.hypergraph.proofs.Bodies.{edge-drawn}
+use Rattle.write.proofs.Results.{room-same}
+use Rattle.hypergraph.proofs.Held.{held, nodes-are, lists, edge-rows-are}
 use Rattle.hypergraph.proofs.put_new_edge.Statement.{statement}
 use Rattle.hypergraph.proofs.put_new_edge.Tie as tie
 
-mul-n : tie.Need-mul-n
-mul-n c = search needs
+label-row-requires : tie.Need-label-row-requires
+label-row-requires c κs = c .before .before .before .before .before .pre .0 .low
 
 put-head-requires : tie.Need-put-head-requires
-put-head-requires c κs = search needs
-
-add-put-edges : tie.Need-add-put-edges
-add-put-edges c = search needs
+put-head-requires c κs = (c .before .before .before .before .before .before .pre .1, held (c .before .before .before .before .before .before .pre .0 .labels-held) _ (c .label-row .ensures) _ refl _ (omega arith), omega (arith, c .before .before .before .before .before .before .pre .2))
 
 put-edges-requires : tie.Need-put-edges-requires
-put-edges-requires c κs = search needs
+put-edges-requires c κs = (c .before .before .before .before .before .before .before .before .before .before .pre .0, room-same (c .before .before .before .before .before .before .before .before .before .before .pre .1) _ (c .before .before .before .put-head .kept .0), c .before .before .before .before .before .before .before .before .before .before .pre .3, omega (arith, c .before .before .before .before .before .before .before .before .before .before .pre .4), c .before .before .before .before .before .before .before .before .before .before .pre .5, c .before .before .before .before .before .before .before .before .before .before .pre .6)
 
-lists-at-requires : tie.Need-lists-at-requires
-lists-at-requires c κs = search needs
+mul-lists : tie.Need-mul-lists
+mul-lists c = omega (arith, c .before .before .before .before .before .before .before .before .before .before .before .before .before .before .pre .0 .low .edges, c .before .before .before .before .before .before .before .before .before .before .before .before .before .before .pre .0 .low .ports)
 
-add-put-edge : tie.Need-add-put-edge
-add-put-edge c = search needs
+add-lists : tie.Need-add-lists
+add-lists c = omega (arith, c .before .before .before .before .before .before .before .before .before .before .before .before .before .before .before .pre .0 .low .edges, c .before .before .before .before .before .before .before .before .before .before .before .before .before .before .before .pre .0 .low .ports)
 
-put-edge-requires : tie.Need-put-edge-requires
-put-edge-requires c κs = search needs
+add-ids : tie.Need-add-ids
+add-ids c = omega (arith, c .before .before .before .before .before .before .before .before .before .before .before .before .before .before .before .pre .0 .low .edges, c .before .before .before .before .before .before .before .before .before .before .before .before .before .before .before .pre .0 .low .ports)
 
-add-copy : tie.Need-add-copy
-add-copy c = search needs
+body-row-requires : tie.Need-body-row-requires
+body-row-requires c κs = c .before .before .before .before .before .before .before .before .before .before .before .before .before .before .before .before .pre .1 .low
 
-add-copy-2 : tie.Need-add-copy-2
-add-copy-2 c = search needs
+put-both-requires : tie.Need-put-both-requires
+put-both-requires c κs = (held (c .before .before .before .before .before .before .before .before .before .before .before .before .before .before .before .before .before .pre .1 .body) _ (c .body-row .ensures) _ (c .before .before .before .before .before .before .put-edges .kept .0 ∙ c .before .before .before .before .before .before .before .before .before .before .put-head .kept .0) _ (omega (arith, c .before .before .before .before .before .before .before .before .before .before .before .before .before .before .before .before .before .pre .4)), c .before .before .before .before .before .before .before .before .before .before .before .before .before .before .before .before .before .pre .7, c .before .before .before .before .before .before .before .before .before .before .before .before .before .before .before .before .before .pre .8)
 
-add-copy-3 : tie.Need-add-copy-3
-add-copy-3 c = search needs
+add-put-rest : tie.Need-add-put-rest
+add-put-rest c = omega (arith, c .before .before .before .before .before .before .before .before .before .before .before .before .before .before .before .before .before .before .before .before .before .pre .5, c .before .before .before .before .before .before .before .before .before .before .before .before .before .before .before .before .before .before .before .before .before .pre .6)
 
-sub-copy : tie.Need-sub-copy
-sub-copy c = search needs
+add-put-rest-2 : tie.Need-add-put-rest-2
+add-put-rest-2 c = omega (arith, c .before .before .before .before .before .before .before .before .before .before .before .before .before .before .before .before .before .before .before .before .before .pre .0 .low .edges, c .before .before .before .before .before .before .before .before .before .before .before .before .before .before .before .before .before .before .before .before .before .pre .0 .low .ports, c .before .before .before .before .before .before .before .before .before .before .before .before .before .before .before .before .before .before .before .before .before .pre .5, c .before .before .before .before .before .before .before .before .before .before .before .before .before .before .before .before .before .before .before .before .before .pre .6)
 
-copy-requires : tie.Need-copy-requires
-copy-requires c κs = search needs
+put-rest-requires : tie.Need-put-rest-requires
+put-rest-requires c κs = (c .before .before .before .before .before .before .before .before .before .before .before .before .before .before .before .before .before .before .before .before .before .pre .0, room-same (c .before .before .before .before .before .before .before .before .before .before .before .before .before .before .before .before .before .before .before .before .before .pre .1) _ (c .before .before .before .put-both .kept .0 ∙ c .before .before .before .before .before .before .before .before .before .before .put-edges .kept .0 ∙ c .before .before .before .before .before .before .before .before .before .before .before .before .before .before .put-head .kept .0), omega arith, omega (arith, c .before .before .before .before .before .before .before .before .before .before .before .before .before .before .before .before .before .before .before .before .before .pre .4))
 
 same-length : tie.Need-same-length
-same-length c = search needs
+same-length c = c .before .before .put-rest .kept .0 ∙ c .before .before .before .before .before .before .put-both .kept .0 ∙ c .before .before .before .before .before .before .before .before .before .before .before .before .before .put-edges .kept .0 ∙ c .before .before .before .before .before .before .before .before .before .before .before .before .before .before .before .before .before .put-head .kept .0
 
 returns : tie.Need-returns
 returns c =
-    let a = c .before .before .before .before .before .before .before .before .before .before .before .before .before .before .before .before .before .before .before .before .before .before .args in
-    let b = now (a .src) in
+    let a = c .before .before .before .before .before .before .before .before .before .before .before .before .before .before .before .before .before .before .before .before .before .before .before .before .args in
+    let old = now (a .out) in
+    let y = a .y in
     let z = a .z in
-    let n = z .nodes * 4 in
-    let l = listsAt (z .nodes) (z .edges) (z .ports) in
-    let w = c .before .before .before .before .before .before .before .before .before .before .before .before .before .before .before .put-head in
-    let x = c .before .before .before .before .before .before .before .before .before .before .before .put-edges in
-    let y = c .before .before .before .before .before .before .put-edge in
-    let v = c .before .before .copy in
-    let rest = c .before .before .before .before .before .before .before .before .lists-at .result in
-    let is : rest ≡ l = c .before .before .before .before .before .before .before .before .lists-at .ensures in
-    let there : l ≤ length b = c .before .before .before .before .before .before .before .before .before .before .before .before .before .before .before .before .before .before .before .before .before .before .pre .3 in
-    let head = header form1 (countsOf (a .y)) ++ take n (drop 15 b) in
-    let edges = take (z .edges * 4) (drop (15 + n) b) ++ (bytes 4 (a .label) ++ take ((2 * z .edges + z .ports) * 2) (drop (edgesAt (z .nodes) (z .edges)) b)) in
-    let ids = now (a .sources) ++ now (a .targets) in
-    let new = row 2 (length (now (a .sources)) / 2 ∷ length (now (a .targets)) / 2 ∷ []) ++ ids in
-    let last = drop l b in
-    let n₁ = length-head (countsOf (a .y)) b n (omega arith) in
-    let n₂ = length-more-edges b (z .nodes) (z .edges) (z .ports) (a .label) there in
-    let n₃ = length-append (now (a .sources)) (now (a .targets)) in
-    sets-then (now (a .out)) (w .last .0) (v .last .0) head (edges ++ (new ++ last)) 0 (15 + n) (w .ensures) (omega arith)
-    (sets-then (w .last .0) (x .last .0) (v .last .0) edges (new ++ last) (15 + n) (rest + 4) (x .ensures) (omega arith)
-    (sets-then (x .last .0) (y .last .0) (v .last .0) new last (rest + 4) (rest + 8 + (length (now (a .sources)) + length (now (a .targets)))) (y .ensures) (omega arith)
-    (v .ensures ∙ ap (sets (y .last .0) (rest + 8 + (length (now (a .sources)) + length (now (a .targets))))) (part-rest b rest (length b - rest) (omega arith) ∙ ap (λ k. drop k b) is))))
+    let r = c .before .before .before .before .before .before .before .before .before .before .before .before .before .before .before .before .before .before .before .before .before .before .before .before .pre .0 in
+    let g = graphOf (now (a .src)) in
+    let ss = lent (now (a .sources)) (z .width) (a .s) in
+    let ts = lent (now (a .targets)) (z .width) (a .t) in
+    let m = length-span (now (a .sources)) (rowAt 0 (z .width)) 0 (a .s) in
+    let n = length-span (now (a .targets)) (rowAt 0 (z .width)) 0 (a .t) in
+    let rows = edge-rows-are r in
+    let labels = c .before .before .before .before .before .before .before .before .before .before .before .before .before .before .before .before .before .put-head .ensures ∙ ap (λ (l : List ℕ). drawn old y l []) ((λ i. span (now (a .src)) (c .before .before .before .before .before .before .before .before .before .before .before .before .before .before .before .before .before .before .label-row .ensures i) 0 (z .nodes)) ∙ r .labels) in
+    let edges = c .before .before .before .before .before .before .before .before .before .before .before .before .before .put-edges .ensures old (g .labels) (nodes-are r ∙ sym (c .before .before .before .before .before .before .before .before .before .before .before .before .before .before .before .before .before .before .before .before .before .before .before .before .pre .2)) labels in
+    let all = g .labels ++ (map (λ (e : Edge). e .label) (g .edges) ++ (a .label ∷ [])) in
+    edge-drawn (a .label) ss ts g old y
+    (edges ∙ (λ i. drawn old y all (joined edgeRow (g .edges) ++ (sym m i ∷ sym n i ∷ []))))
+    (c .before .before .before .before .before .before .put-both .ensures) (c .before .before .before .before .before .before .before .body-row .ensures) (omega arith) refl
+    (c .before .before .put-rest .ensures .stored) (omega arith) (lists r)
 
 pub put-new-edge-spec : {M : Type 1} → statement M
 put-new-edge-spec =
     tie.close
     (tie.spec
-    mul-n
+    label-row-requires
     put-head-requires
-    add-put-edges
     put-edges-requires
-    lists-at-requires
-    add-put-edge
-    put-edge-requires
-    add-copy
-    add-copy-2
-    add-copy-3
-    sub-copy
-    copy-requires
+    mul-lists
+    add-lists
+    add-ids
+    body-row-requires
+    put-both-requires
+    add-put-rest
+    add-put-rest-2
+    put-rest-requires
     same-length
     returns)

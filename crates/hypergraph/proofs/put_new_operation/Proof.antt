@@ -1,140 +1,119 @@
 -- `hypergraph::put_new_operation` meets its contract.
 -- Assumes nothing.
-use mathlib.Core.List.{_∷_, _++_}
-use mathlib.Core.Path.{_≡_, ap, _∙_}
-use Prim.Native.Nat.{_+_, _*_, _-_, _/_, _≤_}
+use mathlib.Core.List.{List, [], _∷_, _++_, map}
+use mathlib.Core.Path.{_∙_, refl, sym, ap}
+use Prim.Native.Nat.{ℕ, _+_}
 use native.Mathlib.Omega.{arith}
-use lib.ListN.{length, take, drop, length-append}
-use lib.Seq.{sets}
 use denote.Ref.{now}
-use borrow.Author.Needs.{needs}
-use Rattle.form.specs.Form.{countsOf, edgesAt, listsAt}
-use Rattle.graph.specs.Form.{header}
-use Rattle.graph.specs.Graph.{form1}
-use Rattle.graph.specs.Lists.{range}
-use Rattle.le.specs.Le.{bytes, row}
-use Rattle.le.proofs.Numbers.{length-row}
-use Rattle.hypergraph.proofs.Parts.{length-head, length-more-edges, part-rest, sets-then}
-use Rattle.graph.proofs.Lists.{length-range}
+use lib.ListN.{length, length-append}
+use Rattle.le.specs.Rows.{span, rowAt}
+use Rattle.le.proofs.Rows.{length-span}
+use Rattle.graph.specs.Build.{newOperation, withNodes}
+use Rattle.graph.specs.Form.{edgeRow}
+use Rattle.graph.specs.Graph.{Edge}
+use Rattle.graph.specs.Lists.{joined, range}
+use Rattle.graph.proofs.Lists.{length-range, range-add}
+use Rattle.form.specs.Stored.{graphOf}
+use Rattle.write.specs.Write.{drawn}
+use Rattle.hypergraph.specs.Lent.{lent}
+use Rattle.hypergraph.proofs.Bodies.{edge-drawn}
+use Rattle.hypergraph.proofs.Drawn.{more-labels}
+use Rattle.write.proofs.Results.{room-same}
+use Rattle.hypergraph.proofs.Held.{held, nodes-are, lists, edge-rows-are}
 use Rattle.hypergraph.proofs.put_new_operation.Statement.{statement}
 use Rattle.hypergraph.proofs.put_new_operation.Tie as tie
 
-mul-n : tie.Need-mul-n
-mul-n c = search needs
+label-row-requires : tie.Need-label-row-requires
+label-row-requires c κs = c .before .before .before .before .before .pre .0 .low
 
 put-head-requires : tie.Need-put-head-requires
-put-head-requires c κs = search needs
+put-head-requires c κs = (c .before .before .before .before .before .before .pre .1, held (c .before .before .before .before .before .before .pre .0 .labels-held) _ (c .label-row .ensures) _ refl _ (omega arith), omega (arith, c .before .before .before .before .before .before .pre .2))
 
-add-put-both : tie.Need-add-put-both
-add-put-both c = search needs
+label-row-requires-2 : tie.Need-label-row-requires-2
+label-row-requires-2 c κs = c .before .before .before .before .before .before .before .before .before .before .pre .1 .low
 
 put-both-requires : tie.Need-put-both-requires
-put-both-requires c κs = search needs
-
-add-shift : tie.Need-add-shift
-add-shift c = search needs
-
-add-put-edges : tie.Need-add-put-edges
-add-put-edges c = search needs
-
-add-put-edges-2 : tie.Need-add-put-edges-2
-add-put-edges-2 c = search needs
+put-both-requires c κs = (held (c .before .before .before .before .before .before .before .before .before .before .before .pre .1 .labels) _ (c .label-row2 .ensures) _ (c .before .before .before .before .put-head .kept .0) _ (omega (arith, c .before .before .before .before .before .before .before .before .before .before .before .pre .2)), c .before .before .before .before .before .before .before .before .before .before .before .pre .5, c .before .before .before .before .before .before .before .before .before .before .before .pre .6)
 
 put-edges-requires : tie.Need-put-edges-requires
-put-edges-requires c κs = search needs
+put-edges-requires c κs = (c .before .before .before .before .before .before .before .before .before .before .before .before .before .before .before .pre .0, room-same (c .before .before .before .before .before .before .before .before .before .before .before .before .before .before .before .pre .1) _ (c .before .before .before .put-both .kept .0 ∙ c .before .before .before .before .before .before .before .before .put-head .kept .0), c .before .before .before .before .before .before .before .before .before .before .before .before .before .before .before .pre .3, omega (arith, c .before .before .before .before .before .before .before .before .before .before .before .before .before .before .before .pre .4), omega (arith, c .before .before .before .before .before .before .before .before .before .before .before .before .before .before .before .pre .1 .low .nodes, c .before .before .before .before .before .before .before .before .before .before .before .before .before .before .before .pre .2), omega (arith, c .before .before .before .before .before .before .before .before .before .before .before .before .before .before .before .pre .1 .low .nodes, c .before .before .before .before .before .before .before .before .before .before .before .before .before .before .before .pre .2))
 
-lists-at-requires : tie.Need-lists-at-requires
-lists-at-requires c κs = search needs
+mul-lists : tie.Need-mul-lists
+mul-lists c = omega (arith, c .before .before .before .before .before .before .before .before .before .before .before .before .before .before .before .before .before .before .before .pre .0 .low .edges, c .before .before .before .before .before .before .before .before .before .before .before .before .before .before .before .before .before .before .before .pre .0 .low .ports)
 
-add-put-fresh-edge : tie.Need-add-put-fresh-edge
-add-put-fresh-edge c = search needs
+add-lists : tie.Need-add-lists
+add-lists c = omega (arith, c .before .before .before .before .before .before .before .before .before .before .before .before .before .before .before .before .before .before .before .before .pre .0 .low .edges, c .before .before .before .before .before .before .before .before .before .before .before .before .before .before .before .before .before .before .before .before .pre .0 .low .ports)
 
-add-put-fresh-edge-2 : tie.Need-add-put-fresh-edge-2
-add-put-fresh-edge-2 c = search needs
+add-ids : tie.Need-add-ids
+add-ids c = omega (arith, c .before .before .before .before .before .before .before .before .before .before .before .before .before .before .before .before .before .before .before .before .pre .0 .low .edges, c .before .before .before .before .before .before .before .before .before .before .before .before .before .before .before .before .before .before .before .before .pre .0 .low .ports)
 
-put-fresh-edge-requires : tie.Need-put-fresh-edge-requires
-put-fresh-edge-requires c κs = search needs
+body-row-requires : tie.Need-body-row-requires
+body-row-requires c κs = c .before .before .before .before .before .before .before .before .before .before .before .before .before .before .before .before .before .before .before .before .before .pre .1 .low
 
-add-copy : tie.Need-add-copy
-add-copy c = search needs
+add-put-range : tie.Need-add-put-range
+add-put-range c = omega (arith, c .before .before .before .before .before .before .before .before .before .before .before .before .before .before .before .before .before .before .before .before .before .before .pre .1 .low .nodes, c .before .before .before .before .before .before .before .before .before .before .before .before .before .before .before .before .before .before .before .before .before .before .pre .2)
 
-add-copy-2 : tie.Need-add-copy-2
-add-copy-2 c = search needs
+put-range-requires : tie.Need-put-range-requires
+put-range-requires c κs = (held (c .before .before .before .before .before .before .before .before .before .before .before .before .before .before .before .before .before .before .before .before .before .before .pre .1 .body) _ (c .body-row .ensures) _ (c .before .before .before .before .before .before .put-edges .kept .0 ∙ c .before .before .before .before .before .before .before .before .before .before .put-both .kept .0 ∙ c .before .before .before .before .before .before .before .before .before .before .before .before .before .before .before .put-head .kept .0) _ (omega (arith, c .before .before .before .before .before .before .before .before .before .before .before .before .before .before .before .before .before .before .before .before .before .before .pre .4)), omega (arith, c .before .before .before .before .before .before .before .before .before .before .before .before .before .before .before .before .before .before .before .before .before .before .pre .1 .low .nodes, c .before .before .before .before .before .before .before .before .before .before .before .before .before .before .before .before .before .before .before .before .before .before .pre .2))
 
-add-copy-3 : tie.Need-add-copy-3
-add-copy-3 c = search needs
+add-put-rest : tie.Need-add-put-rest
+add-put-rest c = omega (arith, c .before .before .before .before .before .before .before .before .before .before .before .before .before .before .before .before .before .before .before .before .before .before .before .before .before .before .pre .1 .low .nodes, c .before .before .before .before .before .before .before .before .before .before .before .before .before .before .before .before .before .before .before .before .before .before .before .before .before .before .pre .2)
 
-mul-copy : tie.Need-mul-copy
-mul-copy c = search needs
+add-put-rest-2 : tie.Need-add-put-rest-2
+add-put-rest-2 c = omega (arith, c .before .before .before .before .before .before .before .before .before .before .before .before .before .before .before .before .before .before .before .before .before .before .before .before .before .before .pre .0 .low .edges, c .before .before .before .before .before .before .before .before .before .before .before .before .before .before .before .before .before .before .before .before .before .before .before .before .before .before .pre .0 .low .ports, c .before .before .before .before .before .before .before .before .before .before .before .before .before .before .before .before .before .before .before .before .before .before .before .before .before .before .pre .1 .low .nodes, c .before .before .before .before .before .before .before .before .before .before .before .before .before .before .before .before .before .before .before .before .before .before .before .before .before .before .pre .2)
 
-add-copy-4 : tie.Need-add-copy-4
-add-copy-4 c = search needs
-
-sub-copy : tie.Need-sub-copy
-sub-copy c = search needs
-
-copy-requires : tie.Need-copy-requires
-copy-requires c κs = search needs
+put-rest-requires : tie.Need-put-rest-requires
+put-rest-requires c κs = (c .before .before .before .before .before .before .before .before .before .before .before .before .before .before .before .before .before .before .before .before .before .before .before .before .before .before .pre .0, room-same (c .before .before .before .before .before .before .before .before .before .before .before .before .before .before .before .before .before .before .before .before .before .before .before .before .before .before .pre .1) _ (c .before .before .before .put-range .kept .0 ∙ c .before .before .before .before .before .before .before .before .before .before .put-edges .kept .0 ∙ c .before .before .before .before .before .before .before .before .before .before .before .before .before .before .put-both .kept .0 ∙ c .before .before .before .before .before .before .before .before .before .before .before .before .before .before .before .before .before .before .before .put-head .kept .0), omega arith, omega (arith, c .before .before .before .before .before .before .before .before .before .before .before .before .before .before .before .before .before .before .before .before .before .before .before .before .before .before .pre .4))
 
 same-length : tie.Need-same-length
-same-length c = search needs
+same-length c = c .before .before .put-rest .kept .0 ∙ c .before .before .before .before .before .before .put-range .kept .0 ∙ c .before .before .before .before .before .before .before .before .before .before .before .before .before .put-edges .kept .0 ∙ c .before .before .before .before .before .before .before .before .before .before .before .before .before .before .before .before .before .put-both .kept .0 ∙ c .before .before .before .before .before .before .before .before .before .before .before .before .before .before .before .before .before .before .before .before .before .before .put-head .kept .0
 
 returns : tie.Need-returns
+unfolding newOperation
 returns c =
-    let a = c .before .before .before .before .before .before .before .before .before .before .before .before .before .before .before .before .before .before .before .before .before .before .before .before .before .before .args in
-    let b = now (a .src) in
+    let a = c .before .before .before .before .before .before .before .before .before .before .before .before .before .before .before .before .before .before .before .before .before .before .before .before .before .before .before .before .before .args in
+    let old = now (a .out) in
+    let y = a .y in
     let z = a .z in
-    let n = z .nodes * 4 in
-    let s = length (now (a .sources)) / 4 in
-    let t = length (now (a .targets)) / 4 in
-    let shift = length (now (a .sources)) + length (now (a .targets)) in
-    let l = listsAt (z .nodes) (z .edges) (z .ports) in
-    let w = c .before .before .before .before .before .before .before .before .before .before .before .before .before .before .before .before .before .before .before .put-head in
-    let u = c .before .before .before .before .before .before .before .before .before .before .before .before .before .before .before .put-both in
-    let x = c .before .before .before .before .before .before .before .before .before .before .before .put-edges in
-    let y = c .before .before .before .before .before .before .put-fresh-edge in
-    let v = c .before .before .copy in
-    let rest = c .before .before .before .before .before .before .before .before .lists-at .result in
-    let is : rest ≡ l = c .before .before .before .before .before .before .before .before .lists-at .ensures in
-    let there : l ≤ length b = c .before .before .before .before .before .before .before .before .before .before .before .before .before .before .before .before .before .before .before .before .before .before .before .before .before .before .pre .3 in
-    let head = header form1 (countsOf (a .y)) ++ take n (drop 15 b) in
-    let labels = now (a .sources) ++ now (a .targets) in
-    let edges = take (z .edges * 4) (drop (15 + n) b) ++ (bytes 4 (a .label) ++ take ((2 * z .edges + z .ports) * 2) (drop (edgesAt (z .nodes) (z .edges)) b)) in
-    let new = row 2 (s ∷ t ∷ range (z .nodes) (s + t)) in
-    let last = drop l b in
-    let n₁ = length-head (countsOf (a .y)) b n (omega arith) in
-    let n₂ = length-append (now (a .sources)) (now (a .targets)) in
-    let n₃ = length-more-edges b (z .nodes) (z .edges) (z .ports) (a .label) there in
-    let n₄ = length-row 2 (s ∷ t ∷ range (z .nodes) (s + t)) in
-    let n₅ = length-range (z .nodes) (s + t) in
-    sets-then (now (a .out)) (w .last .0) (v .last .0) head (labels ++ (edges ++ (new ++ last))) 0 (15 + n) (w .ensures) (omega arith)
-    (sets-then (w .last .0) (u .last .0) (v .last .0) labels (edges ++ (new ++ last)) (15 + n) (15 + n + shift) (u .ensures) (omega arith)
-    (sets-then (u .last .0) (x .last .0) (v .last .0) edges (new ++ last) (15 + n + shift) (rest + 4 + shift) (x .ensures) (omega arith)
-    (sets-then (x .last .0) (y .last .0) (v .last .0) new last (rest + 4 + shift) (rest + 8 + shift + (s + t) * 2) (y .ensures) (omega arith)
-    (v .ensures ∙ ap (sets (y .last .0) (rest + 8 + shift + (s + t) * 2)) (part-rest b rest (length b - rest) (omega arith) ∙ ap (λ k. drop k b) is)))))
+    let r = c .before .before .before .before .before .before .before .before .before .before .before .before .before .before .before .before .before .before .before .before .before .before .before .before .before .before .before .before .before .pre .0 in
+    let g = graphOf (now (a .src)) in
+    let ss = lent (now (a .sources)) 4 (a .s) in
+    let ts = lent (now (a .targets)) 4 (a .t) in
+    let m = length-span (now (a .sources)) (rowAt 0 4) 0 (a .s) in
+    let n = length-span (now (a .targets)) (rowAt 0 4) 0 (a .t) in
+    let k = nodes-are r in
+    let first = range (length (g .labels)) (length ss) in
+    let second = range (length (g .labels) + length ss) (length ts) in
+    let m′ = length-range (length (g .labels)) (length ss) ∙ m in
+    let n′ = length-range (length (g .labels) + length ss) (length ts) ∙ n in
+    let rows = edge-rows-are r in
+    let old-labels = c .before .before .before .before .before .before .before .before .before .before .before .before .before .before .before .before .before .before .before .before .before .before .put-head .ensures ∙ ap (λ (l : List ℕ). drawn old y l []) ((λ i. span (now (a .src)) (c .before .before .before .before .before .before .before .before .before .before .before .before .before .before .before .before .before .before .before .before .before .before .before .label-row .ensures i) 0 (z .nodes)) ∙ r .labels) in
+    let labels = more-labels old y (g .labels) (ss ++ ts) old-labels (c .before .before .before .before .before .before .before .before .before .before .before .before .before .before .before .before .before .put-both .ensures) (c .before .before .before .before .before .before .before .before .before .before .before .before .before .before .before .before .before .before .label-row2 .ensures) (sym k) refl in
+    let long = length-append (g .labels) (ss ++ ts) in
+    let edges = c .before .before .before .before .before .before .before .before .before .before .before .before .before .put-edges .ensures old (g .labels ++ (ss ++ ts)) (rw (long, length-append ss ts) (omega (arith, c .before .before .before .before .before .before .before .before .before .before .before .before .before .before .before .before .before .before .before .before .before .before .before .before .before .before .before .before .before .pre .2))) labels in
+    let all = (g .labels ++ (ss ++ ts)) ++ (map (λ (e : Edge). e .label) (g .edges) ++ (a .label ∷ [])) in
+    edge-drawn (a .label) first second (withNodes (ss ++ ts) g) old y
+    (edges ∙ (λ i. drawn old y all (joined edgeRow (g .edges) ++ (sym m′ i ∷ sym n′ i ∷ []))))
+    (c .before .before .before .before .before .before .put-range .ensures) (c .before .before .before .before .before .before .before .body-row .ensures)
+    (omega arith) ((λ i. range (sym k i) (sym m i + sym n i)) ∙ range-add (length (g .labels)) (length ss) (length ts)) (c .before .before .put-rest .ensures .stored) (omega arith) (lists r)
 
 pub put-new-operation-spec : {M : Type 1} → statement M
 put-new-operation-spec =
     tie.close
     (tie.spec
-    mul-n
+    label-row-requires
     put-head-requires
-    add-put-both
+    label-row-requires-2
     put-both-requires
-    add-shift
-    add-put-edges
-    add-put-edges-2
     put-edges-requires
-    lists-at-requires
-    add-put-fresh-edge
-    add-put-fresh-edge-2
-    put-fresh-edge-requires
-    add-copy
-    add-copy-2
-    add-copy-3
-    mul-copy
-    add-copy-4
-    sub-copy
-    copy-requires
+    mul-lists
+    add-lists
+    add-ids
+    body-row-requires
+    add-put-range
+    put-range-requires
+    add-put-rest
+    add-put-rest-2
+    put-rest-requires
     same-length
     returns)

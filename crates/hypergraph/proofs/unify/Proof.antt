@@ -1,23 +1,22 @@
 -- `hypergraph::unify` meets its contract.
 -- Assumes nothing.
 use mathlib.Core.Path.{_≡_, ap, _∙_}
-use Prim.Native.Nat.{_<_}
 use native.Mathlib.Omega.{arith}
-use lib.ListN.{length}
 use denote.Ref.{now}
+use lib.ListN.{length}
 use borrow.Author.Needs.{needs}
-use Rattle.form.specs.Form.{readRefusal, nameRefusal, fitRefusal}
 use Rattle.graph.specs.Answer.{answered}
-use Rattle.graph.specs.Calls.{known, unifyStep}
-use Rattle.graph.specs.Graph.{form1}
-use Rattle.form.proofs.Sections.{stored-sections}
-use Rattle.form.proofs.Whole.{Stored, stored-graph, stored-limits, unread}
-use Rattle.graph.proofs.Verdicts.{call-unread}
+use Rattle.graph.specs.Build.{unify}
+use Rattle.graph.specs.Calls.{unifyCall, unifyStep, known}
+use Rattle.graph.proofs.Answers.{known-below}
+use Rattle.form.specs.Stored.{Stored, graphOf}
+use Rattle.form.proofs.Stored.{stored, unread, stored-rows}
 use Rattle.le.proofs.Numbers.{below-each}
-use Rattle.hypergraph.proofs.Calls.{unify-first-7, unify-second-7, unify-made}
-use Rattle.hypergraph.proofs.Ends.{ends-refused, ends-unfit, ends-room, ends-done}
-use Rattle.hypergraph.proofs.Forms.{unify-sizes, unify-form}
-use Rattle.hypergraph.proofs.Listed.{unnamed, id-named}
+use Rattle.form.specs.Form.{bodySize}
+use Rattle.form.proofs.Answers.{number-refused, number-answered}
+use Rattle.write.proofs.Calls.{graph-unread, graph-stopped}
+use Rattle.hypergraph.proofs.Bodies.{unify-sizes}
+use Rattle.hypergraph.proofs.Calls.{Ends, graph-ends, passed-read, passed-on, unify-first, unify-second, unify-next}
 use Rattle.hypergraph.proofs.unify.Statement.{statement}
 use Rattle.hypergraph.proofs.unify.Tie as tie
 
@@ -25,19 +24,25 @@ use Rattle.hypergraph.proofs.unify.Tie as tie
 form : (c : tie.After-known-told) → Stored (now (c .before .before .before .before .before .before .args .src)) (c .before .graph .given .0 .0)
 form c =
     let b = now (c .before .before .before .before .before .before .args .src) in
-    stored-graph b (below-each 256 b (λ i l. omega (arith, c .before .before .before .before .before .shared-slice-known .given i)))
-    (c .before .before .before .read .result) (c .before .before .before .read .ensures) (c .before .graph .given .0 .0) (c .before .graph .given .1)
+    stored b (c .before .before .before .read .result) (c .before .before .before .read .ensures)
+    (below-each 256 b (λ i l. omega (arith, c .before .before .before .before .before .shared-slice-known .given i)))
+    (c .before .graph .given .0 .0) (c .before .graph .given .1)
 
 -- the two ids
-first : (c : tie.After-known-told2) → (known (c .before .before .before .before .before .graph .given .0 .0 .nodes) (c .before .before .before .before .before .before .before .before .before .before .args .v) ≡ answered (c .before .first .given .0 .0)) × (c .before .first .given .0 .0 < c .before .before .before .before .before .graph .given .0 .0 .nodes)
-first c =
-    let r = c .before .before .before .known in
-    id-named (c .before .before .before .before .before .graph .given .0 .0 .nodes) (c .before .before .before .before .before .before .before .before .before .before .args .v) (r .result) (r .ensures) (c .before .first .given .0 .0) (c .before .first .given .1)
+first : (c : tie.After-known-told2) → known (c .before .before .before .before .before .graph .given .0 .0 .nodes) (c .before .before .before .before .before .before .before .before .before .before .args .v) ≡ answered (c .before .first .given .0 .0)
+first c = number-answered _ _ (c .before .before .before .known .ensures) _ (c .before .first .given .1)
 
-second : (c : tie.After-known-told3) → (known (c .before .before .before .before .before .before .before .before .before .graph .given .0 .0 .nodes) (c .before .before .before .before .before .before .before .before .before .before .before .before .before .before .args .w) ≡ answered (c .before .second .given .0 .0)) × (c .before .second .given .0 .0 < c .before .before .before .before .before .before .before .before .before .graph .given .0 .0 .nodes)
-second c =
-    let r = c .before .before .before .known2 in
-    id-named (c .before .before .before .before .before .before .before .before .before .graph .given .0 .0 .nodes) (c .before .before .before .before .before .before .before .before .before .before .before .before .before .before .args .w) (r .result) (r .ensures) (c .before .second .given .0 .0) (c .before .second .given .1)
+second : (c : tie.After-known-told3) → known (c .before .before .before .before .before .before .before .before .before .graph .given .0 .0 .nodes) (c .before .before .before .before .before .before .before .before .before .before .before .before .before .before .args .w) ≡ answered (c .before .second .given .0 .0)
+second c = number-answered _ _ (c .before .before .before .known2 .ensures) _ (c .before .second .given .1)
+
+ends : (c : tie.After-result-size) → Ends (unifyCall (now (c .before .before .before .before .before .before .before .before .before .before .before .before .before .before .before .before .before .args .src)) (c .before .before .before .before .before .before .before .before .before .before .before .before .before .before .before .before .before .args .v) (c .before .before .before .before .before .before .before .before .before .before .before .before .before .before .before .before .before .args .w) (length (now (c .before .before .before .before .before .before .before .before .before .before .before .before .before .before .before .before .before .args .out)))) (now (c .before .before .before .before .before .before .before .before .before .before .before .before .before .before .before .before .before .args .out))
+    (c .before .sized .result) (c .result-size .result) (unify (c .before .before .before .before .before .before .before .before .first .given .0 .0) (c .before .before .before .before .second .given .0 .0) (graphOf (now (c .before .before .before .before .before .before .before .before .before .before .before .before .before .before .before .before .before .args .src)))) 0
+ends c =
+    let a = c .before .before .before .before .before .before .before .before .before .before .before .before .before .before .before .before .before .args in
+    let s = form (c .before .before .before .before .before .before .before .before .before .before .before) in
+    graph-ends (now (a .out)) _ _ (c .before .sized .ensures ∙ unify-sizes s (c .before .before .before .before .before .before .before .before .first .given .0 .0) (c .before .before .before .before .second .given .0 .0)) (c .result-size .ensures)
+    (now (a .src)) (λ f. unifyStep (a .v) (a .w)) s
+    (unify-next s (a .v) (a .w) (first (c .before .before .before .before .before .before .before)) (second (c .before .before .before)))
 
 read-requires : tie.Need-read-requires
 read-requires c κs = search needs
@@ -55,11 +60,8 @@ returns : tie.Need-returns
 returns c =
     let a = c .before .before .before .before .before .before .args in
     let b = now (a .src) in
-    let r = c .before .before .before .read in
-    let x = c .before .enum-told .given in
-    ends-refused _ (now (a .out)) (x .0 .0) (c .refusal .result)
-    (call-unread form1 b (length (now (a .out))) (unifyStep (a .v) (a .w)) (x .0 .0 .no) (unread b (r .result) (r .ensures) (x .0 .0) (x .1)))
-    (c .refusal .ensures ∙ ap readRefusal (x .1))
+    graph-unread b (λ f. unifyStep (a .v) (a .w)) (now (a .out)) _
+    (unread b (c .before .before .before .read .result) (c .before .before .before .read .ensures) _ (passed-read (c .before .enum-told .given .1) (c .refusal .ensures)))
 
 known-requires : tie.Need-known-requires
 known-requires c κs = search needs
@@ -76,11 +78,10 @@ refusal-requires-2 c κs = search needs
 returns-2 : tie.Need-returns-2
 returns-2 c =
     let a = c .before .before .before .before .before .before .before .before .before .before .args in
-    let r = c .before .before .before .known in
-    let x = c .before .enum-told2 .given in
-    ends-refused _ (now (a .out)) (x .0 .0) (c .refusal2 .result)
-    (unify-first-7 (now (a .src)) (length (now (a .out))) (c .before .before .before .before .before .graph .given .0 .0) (form (c .before .before .before .before)) (a .v) (a .w) (x .0 .0 .no) (unnamed _ (r .result) (r .ensures) (x .0 .0) (x .1)))
-    (c .refusal2 .ensures ∙ ap nameRefusal (x .1))
+    let s = form (c .before .before .before .before) in
+    graph-stopped (now (a .src)) (λ f. unifyStep (a .v) (a .w)) (now (a .out)) s _
+    (unify-first s (a .v) (a .w)
+    (number-refused _ _ (c .before .before .before .known .ensures) _ (passed-on (c .before .enum-told2 .given .1) (c .refusal2 .ensures))))
 
 known-requires-2 : tie.Need-known-requires-2
 known-requires-2 c κs = search needs
@@ -97,23 +98,22 @@ refusal-requires-3 c κs = search needs
 returns-3 : tie.Need-returns-3
 returns-3 c =
     let a = c .before .before .before .before .before .before .before .before .before .before .before .before .before .before .args in
-    let r = c .before .before .before .known2 in
-    let x = c .before .enum-told3 .given in
-    let h = first (c .before .before .before .before) in
-    ends-refused _ (now (a .out)) (x .0 .0) (c .refusal3 .result)
-    (unify-second-7 (now (a .src)) (length (now (a .out))) (c .before .before .before .before .before .before .before .before .before .graph .given .0 .0) (form (c .before .before .before .before .before .before .before .before)) (a .v) (a .w) _ (h .0) (x .0 .0 .no) (unnamed _ (r .result) (r .ensures) (x .0 .0) (x .1)))
-    (c .refusal3 .ensures ∙ ap nameRefusal (x .1))
+    let s = form (c .before .before .before .before .before .before .before .before) in
+    graph-stopped (now (a .src)) (λ f. unifyStep (a .v) (a .w)) (now (a .out)) s _
+    (unify-second s (a .v) (a .w) (first (c .before .before .before .before))
+    (number-refused _ _ (c .before .before .before .known2 .ensures) _ (passed-on (c .before .enum-told3 .given .1) (c .refusal3 .ensures))))
 
-add-result-size : tie.Need-add-result-size
-add-result-size c =
-    let h = stored-limits (form (c .before .before .before .before .before .before .before .before .before)) in
-    omega arith
+add-sized : tie.Need-add-sized
+add-sized c = omega (arith, stored-rows (form (c .before .before .before .before .before .before .before .before .before)) .low .pairs)
+
+sized-requires : tie.Need-sized-requires
+sized-requires c κs = search needs
 
 result-size-requires : tie.Need-result-size-requires
-result-size-requires c κs = search needs
+result-size-requires c κs = rw (c .sized .ensures)
 
-enum-known-fit : tie.Need-enum-known-fit
-enum-known-fit c = search needs
+enum-known-size : tie.Need-enum-known-size
+enum-known-size c = search needs
 
 enum-told-4 : tie.Need-enum-told-4
 enum-told-4 c = search needs
@@ -122,55 +122,25 @@ refusal-requires-4 : tie.Need-refusal-requires-4
 refusal-requires-4 c κs = search needs
 
 returns-4 : tie.Need-returns-4
-returns-4 c =
-    let a = c .before .before .before .before .before .before .before .before .before .before .before .before .before .before .before .before .before .before .before .args in
-    let b = now (a .src) in
-    let s = form (c .before .before .before .before .before .before .before .before .before .before .before .before .before) in
-    let z = c .before .before .before .before .before .before .before .before .before .before .before .before .before .before .graph .given .0 .0 in
-    let v = c .before .before .before .before .before .before .before .before .before .before .first .given .0 .0 in
-    let w = c .before .before .before .before .before .before .second .given .0 .0 in
-    let h = first (c .before .before .before .before .before .before .before .before .before) in
-    let k = second (c .before .before .before .before .before) in
-    let r = c .before .before .before .result-size in
-    let x = c .before .enum-told4 .given in
-    ends-unfit _ (now (a .out)) _ (unify-made b (length (now (a .out))) z s (a .v) (a .w) v (h .0) w (k .0)) _ (unify-sizes b z s v w)
-    (r .result) (r .ensures) (x .0 .0) (c .refusal4 .result) (x .1) (c .refusal4 .ensures ∙ ap fitRefusal (x .1))
+returns-4 c = ends (c .before .before .before) .refuses (c .before .enum-told4 .given .1) (c .refusal4 .ensures)
 
 put-unified-requires : tie.Need-put-unified-requires
 put-unified-requires c κs =
-    let a = c .before .before .before .before .before .before .before .before .before .before .before .before .before .before .before .before .before .before .before .before .args in
-    let b = now (a .src) in
-    let s = form (c .before .before .before .before .before .before .before .before .before .before .before .before .before .before) in
-    let z = c .before .before .before .before .before .before .before .before .before .before .before .before .before .before .before .graph .given .0 .0 in
-    let v = c .before .before .before .before .before .before .before .before .before .before .before .first .given .0 .0 in
-    let w = c .before .before .before .before .before .before .before .second .given .0 .0 in
-    let h = first (c .before .before .before .before .before .before .before .before .before .before) in
-    let k = second (c .before .before .before .before .before .before) in
-    let r = c .before .before .before .before .result-size in
-    let x = c .before .before .fit .given in
-    let long = stored-sections s .long in
-    let l = stored-limits s in
-    let room = ends-room _ (now (a .out)) _ (unify-made b (length (now (a .out))) z s (a .v) (a .w) v (h .0) w (k .0)) _ (unify-sizes b z s v w) (r .result) (r .ensures) (x .0 .0) (x .1) in
-    (l .long, omega (arith, room .room), omega (arith, h .1, l .nodes), omega (arith, k .1, l .nodes), room .within)
+    let y = c .before .before .before .before .before .sized .ensures in
+    let r = stored-rows (form (c .before .before .before .before .before .before .before .before .before .before .before .before .before .before .before)) in (
+      r,
+      ends (c .before .before .before .before) .room (c .before .before .size .given .1),
+      omega (arith, ap (λ y. y .nodes) y, ap (λ y. y .edges) y),
+      omega (arith, ap bodySize y),
+      omega (arith, r .low .nodes, known-below _ _ _ (first (c .before .before .before .before .before .before .before .before .before .before .before))),
+      omega (arith, r .low .nodes, known-below _ _ _ (second (c .before .before .before .before .before .before .before))),
+    )
 
 same-length : tie.Need-same-length
-same-length c = search needs
+same-length c = c .before .before .put-unified .kept .0
 
 returns-5 : tie.Need-returns-5
-returns-5 c =
-    let a = c .before .before .before .before .before .before .before .before .before .before .before .before .before .before .before .before .before .before .before .before .before .before .before .args in
-    let b = now (a .src) in
-    let s = form (c .before .before .before .before .before .before .before .before .before .before .before .before .before .before .before .before .before) in
-    let z = c .before .before .before .before .before .before .before .before .before .before .before .before .before .before .before .before .before .before .graph .given .0 .0 in
-    let v = c .before .before .before .before .before .before .before .before .before .before .before .before .before .before .first .given .0 .0 in
-    let w = c .before .before .before .before .before .before .before .before .before .before .second .given .0 .0 in
-    let h = first (c .before .before .before .before .before .before .before .before .before .before .before .before .before) in
-    let k = second (c .before .before .before .before .before .before .before .before .before) in
-    let r = c .before .before .before .before .before .before .before .result-size in
-    let x = c .before .before .before .before .before .fit .given in
-    let u = c .before .before .put-unified in
-    ends-done _ (now (a .out)) _ (unify-made b (length (now (a .out))) z s (a .v) (a .w) v (h .0) w (k .0)) _ (unify-sizes b z s v w)
-    (r .result) (r .ensures) (x .0 .0) (x .1) (u .last .0) _ (u .ensures) (unify-form b z s v w _ (unify-sizes b z s v w))
+returns-5 c = ends (c .before .before .before .before .before .before .before) .done (c .before .before .before .before .before .size .given .1) (c .before .before .put-unified .ensures)
 
 pub unify-spec : {M : Type 1} → statement M
 unify-spec =
@@ -191,9 +161,10 @@ unify-spec =
     enum-told-3
     refusal-requires-3
     returns-3
-    add-result-size
+    add-sized
+    sized-requires
     result-size-requires
-    enum-known-fit
+    enum-known-size
     enum-told-4
     refusal-requires-4
     returns-4

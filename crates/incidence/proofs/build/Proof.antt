@@ -13,34 +13,35 @@ list-arcs-requires : tie.Need-list-arcs-requires
 list-arcs-requires c κs = search needs
 
 add-n : tie.Need-add-n
-add-n c = search needs
+add-n c = omega (arith, few-edges _ _ (c .before .before .before .before .before .before .before .pre .1))
 
 group-requires : tie.Need-group-requires
-group-requires c κs = let a = c .before .before .before .before .before .before .before .args in
-    let w = c .before .before .before .list-arcs in
-    let s = few-edges (a .src .now) (a .nodes) (a .edges) (c .before .before .before .before .before .before .before .pre .1) in
+group-requires c κs =
+    let w = c .before .before .before .before .list-arcs in
+    let s = few-edges _ _ (c .before .before .before .before .before .before .before .before .pre .1) in
     let f = w .ensures .few in (
       (omega arith, omega arith, omega arith, omega arith, omega arith, omega arith),
-      lows (a .src .now) (a .nodes) (a .edges) (c .before .before .before .before .before .before .before .pre .1) (words (w .last .0)) (w .result) (w .ensures) (omega (arith, length-words (w .last .0))) .0,
+      lows _ _ (c .before .before .before .before .before .before .before .before .pre .1) (words (w .last .0)) (w .result) (w .ensures) (omega (arith, length-words (w .last .0))) .0,
     )
 
 group-requires-2 : tie.Need-group-requires-2
-group-requires-2 c κs = let a = c .before .before .before .before .before .before .before .before .before .before .before .args in
-    let w = c .before .before .before .before .before .before .before .list-arcs in
-    let s = few-edges (a .src .now) (a .nodes) (a .edges) (c .before .before .before .before .before .before .before .before .before .before .before .pre .1) in
+group-requires-2 c κs =
+    let w = c .before .before .before .before .before .before .before .before .list-arcs in
+    let s = few-edges _ _ (c .before .before .before .before .before .before .before .before .before .before .before .before .pre .1) in
     let f = w .ensures .few in (
       (omega arith, omega arith, omega arith, omega arith, omega arith, omega arith),
-      low-again (a .src .now) (a .nodes) (a .edges) (c .before .before .before .before .before .before .before .before .before .before .before .pre .1) (words (w .last .0)) (w .result) (w .ensures) (omega (arith, length-words (w .last .0))) (omega arith) (words (c .before .before .before .group .last .0)) (c .before .before .before .group .ensures),
+      low-again _ _ (c .before .before .before .before .before .before .before .before .before .before .before .before .pre .1) (words (w .last .0)) (w .result) (w .ensures) (omega (arith, length-words (w .last .0))) (omega arith) (words (c .before .before .before .group .last .0))
+          (c .before .before .before .group .ensures),
     )
 
 same-length : tie.Need-same-length
 same-length c = search needs
 
 returns : tie.Need-returns
-returns c = let a = c .before .before .before .before .before .before .before .before .before .before .before .before .before .before .args in
-    let w = c .before .before .before .before .before .before .before .before .before .before .list-arcs in
-    let s = few-edges (a .src .now) (a .nodes) (a .edges) (c .before .before .before .before .before .before .before .before .before .before .before .before .before .before .pre .1) in
-    built (a .src .now) (a .nodes) (a .edges) (c .before .before .before .before .before .before .before .before .before .before .before .before .before .before .pre .1) (words (w .last .0)) (w .result) (w .ensures) (omega (arith, length-words (w .last .0))) (omega arith)
+returns c =
+    let w = c .before .before .before .before .before .before .before .before .before .before .before .list-arcs in
+    let s = few-edges _ _ (c .before .before .before .before .before .before .before .before .before .before .before .before .before .before .before .pre .1) in
+    built _ _ (c .before .before .before .before .before .before .before .before .before .before .before .before .before .before .before .pre .1) (words (w .last .0)) (w .result) (w .ensures) (omega (arith, length-words (w .last .0))) (omega arith)
     (words (c .before .before .before .before .before .before .group .last .0)) (c .before .before .before .before .before .before .group .ensures) (words (c .before .before .group2 .last .0)) (c .before .before .group2 .ensures)
 
 pub build-spec : {M : Type 1} → statement M

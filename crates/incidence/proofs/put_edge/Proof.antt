@@ -1,14 +1,15 @@
 -- `incidence::put_edge` meets its contract.
 -- Assumes nothing.
 use mathlib.Core.Path.{_≡_, sym, ap, _∙_}
-use Prim.Native.Nat.{ℕ, _+_, _*_}
+use Prim.Native.Nat.{ℕ, _+_}
 use native.Mathlib.Omega.{arith}
-use lib.ListN.{length, replicate, drop}
+use lib.ListN.{length, replicate}
 use lib.Seq.{sets}
 use borrow.Author.Needs.{needs}
-use Rattle.le.specs.Le.{words, numbers}
-use Rattle.le.proofs.Numbers.{length-numbers}
+use Rattle.le.specs.Le.{words}
+use Rattle.le.specs.Rows.{span}
 use Rattle.le.proofs.Places.{length-words}
+use Rattle.le.proofs.Rows.{holds-index, length-span}
 use Rattle.incidence.proofs.Building.{appended}
 use Rattle.incidence.proofs.put_edge.Statement.{statement}
 use Rattle.incidence.proofs.put_edge.Tie as tie
@@ -43,11 +44,8 @@ add-put-ids-2 c = search needs
 add-put-ids-3 : tie.Need-add-put-ids-3
 add-put-ids-3 c = search needs
 
-mul-put-ids : tie.Need-mul-put-ids
-mul-put-ids c = search needs
-
 add-put-ids-4 : tie.Need-add-put-ids-4
-add-put-ids-4 c = search needs
+add-put-ids-4 c = omega (arith, holds-index (c .before .before .before .before .before .before .before .before .before .before .before .before .before .before .before .before .before .before .pre .3))
 
 put-ids-requires-2 : tie.Need-put-ids-requires-2
 put-ids-requires-2 c κs = search needs
@@ -56,18 +54,20 @@ same-length : tie.Need-same-length
 same-length c = search needs
 
 returns : tie.Need-returns
-returns c = let a = c .before .before .before .before .before .before .before .before .before .before .before .before .before .before .before .before .before .before .args in
-    let S = numbers 2 (a .sources) (drop (a .at) (a .src .now)) in
-    let T = numbers 2 (a .targets) (drop (a .at + a .sources * 2) (a .src .now)) in
-    let ls : length S ≡ a .sources = length-numbers 2 (a .sources) (drop (a .at) (a .src .now)) in
-    let lt : length T ≡ a .targets = length-numbers 2 (a .targets) (drop (a .at + a .sources * 2) (a .src .now)) in
-    let A = words (c .before .before .before .before .before .before .before .before .before .before .before .before .before .before .put-ids .last .0) in
-    let B = words (c .before .before .before .before .before .before .before .before .before .before .put-same .last .0) in
-    let C = words (c .before .before .before .before .before .before .put-same2 .last .0) in
+returns c =
+    let a = c .before .before .before .before .before .before .before .before .before .before .before .before .before .before .before .before .before .before .before .before .before .args in
+    let e = a .e in
+    let S = span (a .src .now) (a .r) (e .first) (e .sources) in
+    let T = span (a .src .now) (a .r) (e .first + e .sources) (e .targets) in
+    let ls : length S ≡ e .sources = length-span (a .src .now) (a .r) (e .first) (e .sources) in
+    let lt : length T ≡ e .targets = length-span (a .src .now) (a .r) (e .first + e .sources) (e .targets) in
+    let A = words (c .before .before .before .before .before .before .before .before .before .before .before .before .before .before .before .before .before .put-ids .last .0) in
+    let B = words (c .before .before .before .before .before .before .before .before .before .before .before .before .before .put-same .last .0) in
+    let C = words (c .before .before .before .before .before .before .before .before .put-same2 .last .0) in
     appended (words (a .room .now)) A B C (words (c .before .before .put-ids2 .last .0)) (a .k) (a .vertex) S T (omega (arith, length-words (a .room .now))) (omega arith)
-    (c .before .before .before .before .before .before .before .before .before .before .before .before .before .before .put-ids .ensures)
-    (c .before .before .before .before .before .before .before .before .before .before .put-same .ensures ∙ ap (λ (n : ℕ). sets A (8192 + a .k) (replicate n (a .vertex))) (sym ls))
-    (c .before .before .before .before .before .before .put-same2 .ensures ∙ (λ i. sets B (0 + a .k + sym ls i) (replicate (sym lt i) (a .vertex))))
+    (c .before .before .before .before .before .before .before .before .before .before .before .before .before .before .before .before .before .put-ids .ensures)
+    (c .before .before .before .before .before .before .before .before .before .before .before .before .before .put-same .ensures ∙ ap (λ (n : ℕ). sets A (8192 + a .k) (replicate n (a .vertex))) (sym ls))
+    (c .before .before .before .before .before .before .before .before .put-same2 .ensures ∙ (λ i. sets B (0 + a .k + sym ls i) (replicate (sym lt i) (a .vertex))))
     (c .before .before .put-ids2 .ensures ∙ ap (λ (n : ℕ). sets C (8192 + a .k + n) T) (sym ls))
 
 pub put-edge-spec : {M : Type 1} → statement M
@@ -84,7 +84,6 @@ put-edge-spec =
     put-same-requires-2
     add-put-ids-2
     add-put-ids-3
-    mul-put-ids
     add-put-ids-4
     put-ids-requires-2
     same-length

@@ -1,38 +1,40 @@
 -- `incidence::put_ids` meets its contract.
 -- Assumes nothing.
 use mathlib.Core.List.{List}
-use mathlib.Core.Path.{_≡_, refl, sym, ap, _∙_}
-use Prim.Native.Nat.{ℕ, _≤_, _+_, _-_, _*_}
+use mathlib.Core.Path.{_≡_, refl, ap, _∙_}
+use Prim.Native.Nat.{ℕ, _≤_, _+_, _-_}
 use native.Mathlib.Nat.{le-antisymm}
 use native.Mathlib.Omega.{arith}
-use lib.ListN.{length, drop, set}
+use lib.ListN.{length, set}
 use lib.Seq.{sets}
-use Rattle.le.specs.Le.{words, numbers, numberAt}
-use Rattle.le.proofs.Places.{number-drop}
+use Rattle.le.specs.Le.{words}
+use Rattle.le.specs.Rows.{span}
+use Rattle.le.proofs.Rows.{holds-less, holds-index}
 use Rattle.incidence.proofs.Building.{ids-more}
 use Rattle.incidence.proofs.put_ids.Statement.{statement}
 use Rattle.incidence.proofs.put_ids.Tie as tie
 
 abbrev Inv-loop : tie.InvT-loop
-Inv-loop room₀ off src at n k₀ room k = (k ≤ n) × (words room ≡ sets (words room₀) off (numbers 2 k (drop at src))) × (length room ≡ length room₀)
+Inv-loop room₀ off src r j n k₀ room k = (k ≤ n) × (words room ≡ sets (words room₀) off (span src r j k)) × (length room ≡ length room₀)
 
 abbrev μ-loop : tie.MeasureT-loop
-μ-loop room₀ off src at n k₀ room k = n - k
+μ-loop room₀ off src r j n k₀ room k = n - k
 
 loop-holds : tie.Need-loop-holds Inv-loop μ-loop
+unfolding span
 loop-holds c = (omega arith, refl, refl)
 
-mul-get2 : tie.Need-mul-get2 Inv-loop μ-loop
-mul-get2 c = omega arith
+add-number : tie.Need-add-number Inv-loop μ-loop
+add-number c = omega (arith, holds-index (c .before .before .before .before .pre .1))
 
-add-get2 : tie.Need-add-get2 Inv-loop μ-loop
-add-get2 c = omega arith
-
-get2-requires : tie.Need-get2-requires Inv-loop μ-loop
-get2-requires c κs = omega arith
+number-requires : tie.Need-number-requires Inv-loop μ-loop
+number-requires c κs = holds-less (c .before .before .before .before .pre .1) _ (omega arith)
 
 add-set-word : tie.Need-add-set-word Inv-loop μ-loop
 add-set-word c = omega arith
+
+cast-set-word : tie.Need-cast-set-word Inv-loop μ-loop
+cast-set-word c = omega arith
 
 set-word-requires : tie.Need-set-word-requires Inv-loop μ-loop
 set-word-requires c κs = omega arith
@@ -44,21 +46,23 @@ loop-less : tie.Need-loop-less Inv-loop μ-loop
 loop-less c = omega arith
 
 loop-again : tie.Need-loop-again Inv-loop μ-loop
-loop-again c = let l = c .before .before .before .before .before .before .loop in
-    let a = c .before .before .before .before .before .before .before .before .before .args in
-    let id : c .before .before .before .before .get2 .result ≡ numberAt 2 (drop (a .at) (a .src .now)) (l .k * 2) =
-    c .before .before .before .before .get2 .ensures .0 ∙ sym (number-drop 2 (a .src .now) (a .at) (l .k * 2)) in (
+loop-again c =
+    let w = c .before .before .set-word in
+    let x = c .before .before .before .before .number in
+    let l = c .before .before .before .before .before .before .loop in
+    let a = c .before .before .before .before .before .before .before .before .before .args in (
       omega arith,
-      c .before .before .set-word .ensures ∙ ap (λ (w : List ℕ). set w (a .off + l .k) (c .before .before .before .before .get2 .result)) (l .inv .1)
-          ∙ ids-more (words (a .room .now)) (a .off) (l .k) (drop (a .at) (a .src .now)) (c .before .before .before .before .get2 .result) id,
-      c .before .before .set-word .kept .0 ∙ l .inv .2,
+      w .ensures ∙ ap (λ (u : List ℕ). set u (a .off + l .k) (x .result)) (l .inv .1)
+          ∙ ids-more (words (a .room .now)) (a .off) (a .src .now) (a .r) (a .j) (l .k) (x .result) (x .ensures .0),
+      w .kept .0 ∙ l .inv .2,
     )
 
 same-length : tie.Need-same-length Inv-loop μ-loop
 same-length c = c .before .loop .inv .2
 
 returns : tie.Need-returns Inv-loop μ-loop
-returns c = let l = c .before .loop in
+returns c =
+    let l = c .before .loop in
     let e = le-antisymm (l .inv .0) (c .loop-test .left) in
     rw (← e) (l .inv .1)
 
@@ -69,10 +73,10 @@ put-ids-spec =
     Inv-loop
     μ-loop
     loop-holds
-    mul-get2
-    add-get2
-    get2-requires
+    add-number
+    number-requires
     add-set-word
+    cast-set-word
     set-word-requires
     add-k
     loop-less

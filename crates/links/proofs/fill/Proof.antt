@@ -8,18 +8,21 @@ use lib.ListN.{length, replicate}
 use lib.Seq.{sets}
 use denote.Ref.{now}
 use Rattle.links.specs.Links.{cells}
+use Rattle.le.proofs.Tables.{fill-table}
 use Rattle.links.proofs.fill.Statement.{statement}
 use Rattle.links.proofs.fill.Tie as tie
-use Rattle.le.proofs.Tables.{fill-front}
 
 abbrev Inv-loop : tie.InvT-loop
-Inv-loop room₀ n v k₀ room k = (k ≤ n) × (cells room ≡ sets (cells room₀) 0 (replicate k v)) × (length room ≡ length room₀)
+Inv-loop room₀ from n v k₀ room k = (k ≤ n) × (cells room ≡ sets (cells room₀) from (replicate k v)) × (length room ≡ length room₀)
 
 abbrev μ-loop : tie.MeasureT-loop
-μ-loop room₀ n v k₀ room k = n - k
+μ-loop room₀ from n v k₀ room k = n - k
 
 loop-holds : tie.Need-loop-holds Inv-loop μ-loop
 loop-holds c = (omega arith, refl, refl)
+
+add-set-cell : tie.Need-add-set-cell Inv-loop μ-loop
+add-set-cell c = omega arith
 
 set-cell-requires : tie.Need-set-cell-requires Inv-loop μ-loop
 set-cell-requires c κs = (omega arith, omega arith)
@@ -33,11 +36,9 @@ loop-less c = omega arith
 loop-again : tie.Need-loop-again Inv-loop μ-loop
 loop-again c =
     let l = c .before .before .before .before .before .loop in
-    let a = c .before .before .before .before .before .before .before .args in (
-      omega arith,
-      c .before .before .set-cell .ensures ∙ rw (l .inv .1) (fill-front (cells (now (a .room))) (l .k) (a .v)),
-      c .before .before .set-cell .kept .0 ∙ l .inv .2,
-    )
+    let a = c .before .before .before .before .before .before .before .args in
+    let s = c .before .before .set-cell in
+    (omega arith, s .ensures ∙ rw (l .inv .1) (fill-table (cells (now (a .room))) (a .from) (l .k) (a .v)), s .kept .0 ∙ l .inv .2)
 
 same-length : tie.Need-same-length Inv-loop μ-loop
 same-length c = c .before .loop .inv .2
@@ -55,6 +56,7 @@ fill-spec =
     Inv-loop
     μ-loop
     loop-holds
+    add-set-cell
     set-cell-requires
     add-k
     loop-less

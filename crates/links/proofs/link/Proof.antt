@@ -1,5 +1,6 @@
 -- `links::link` meets its contract.
 -- Assumes nothing.
+use Rattle.links.specs.Links.{linkedTo}
 use borrow.Author.Needs.{needs}
 use Rattle.links.proofs.link.Statement.{statement}
 use Rattle.links.proofs.link.Tie as tie
@@ -29,6 +30,7 @@ same-length : tie.Need-same-length
 same-length c = search needs
 
 returns : tie.Need-returns
+unfolding linkedTo
 returns c = cc
 
 pub link-spec : {M : Type 1} → statement M

@@ -1,48 +1,48 @@
 -- `links::list_ids` meets its contract.
 -- Assumes nothing.
 use mathlib.Core.Bool.{false}
-use mathlib.Core.Path.{_≡_, refl, _∙_}
-use Prim.Native.Nat.{_*_, _-_, _≤_, _<_}
-use native.Mathlib.Nat.{le-antisymm}
-use native.Mathlib.Omega.{arith}
+use mathlib.Core.Path.{_≡_, refl, _∙_, subst}
+use Prim.Native.Nat.{ℕ, _-_, _≤_, _<_}
+use native.Mathlib.Nat.{le-antisymm, zero-add}
 use lib.ListN.{length}
 use denote.Ref.{now}
 use Rattle.graph.specs.Lists.{among}
-use Rattle.le.specs.Le.{numberAt, numbers}
+use Rattle.le.specs.Rows.{entry, span}
+use Rattle.le.proofs.Rows.{holds-less}
 use Rattle.links.specs.Links.{cells, Heads}
-use Rattle.links.proofs.Cells.{list-more, length-cells}
+use Rattle.links.proofs.Cells.{entry-below, length-cells, list-more}
+use native.Mathlib.Omega.{arith}
 use Rattle.links.proofs.list_ids.Statement.{statement}
 use Rattle.links.proofs.list_ids.Tie as tie
-use Rattle.le.proofs.Places.{read-below}
 
 abbrev Inv-loop : tie.InvT-loop
-Inv-loop room₀ ids n nodes j₀ room j = (j ≤ n) × (length room ≡ length room₀) × (Heads nodes (cells room₀) (λ x. false) → Heads nodes (cells room) (among (numbers 2 j ids)))
+Inv-loop room₀ ids r n nodes j₀ room j = (j ≤ n) × (length room ≡ length room₀) × (Heads nodes (cells room₀) (λ x. false) → Heads nodes (cells room) (among (span ids r 0 j)))
 
 abbrev μ-loop : tie.MeasureT-loop
-μ-loop room₀ ids n nodes j₀ room j = n - j
+μ-loop room₀ ids r n nodes j₀ room j = n - j
 
 loop-holds : tie.Need-loop-holds Inv-loop μ-loop
+unfolding span
 loop-holds c = (omega arith, refl, λ h. h)
 
-mul-get2 : tie.Need-mul-get2 Inv-loop μ-loop
-mul-get2 c = omega arith
+number-requires : tie.Need-number-requires Inv-loop μ-loop
+number-requires c κs = holds-less (c .before .before .before .before .pre .0) _ (omega arith)
 
-get2-requires : tie.Need-get2-requires Inv-loop μ-loop
-get2-requires c κs = omega arith
-
-cast-id : tie.Need-cast-id Inv-loop μ-loop
-cast-id c = omega arith
-
--- the id that was read is the list's, and below the node count
-read : (c : tie.After-get2 Inv-loop μ-loop)
-    → (c .get2 .result ≡ numberAt 2 (c .before .before .before .before .before .args .ids .now) (c .before .before .loop .j * 2)) × (c .get2 .result < c .before .before .before .before .before .args .nodes)
-read c =
+-- the id that was read is below the node count
+known : (c : tie.After-number Inv-loop μ-loop) → c .number .result < c .before .before .before .before .before .args .nodes
+known c =
     let S = c .before .before .before .before .before in
-    let e = c .get2 .ensures .0 in
-    (e, read-below (S .args .nodes) 2 (S .args .n) (now (S .args .ids)) (S .pre .1) (c .before .before .loop .j) (omega arith) (c .get2 .result) e)
+    let a = S .args in
+    let j = c .before .before .loop .j in
+    let h : entry (now (a .ids)) (a .r) j < a .nodes = subst (λ (k : ℕ). entry (now (a .ids)) (a .r) k < a .nodes) (zero-add j) (entry-below (now (a .ids)) (a .r) 0 (a .n) (a .nodes) (S .pre .1) j (omega arith)) in
+    let e : c .number .result ≡ entry (now (a .ids)) (a .r) j = c .number .ensures .0 in
+    omega arith
 
-list-one-requires : tie.Need-list-one-requires Inv-loop μ-loop
-list-one-requires c κs = let q = read (c .before) .1 in omega arith
+mul-fill : tie.Need-mul-fill Inv-loop μ-loop
+mul-fill c = let q = known (c .before) in omega arith
+
+fill-requires : tie.Need-fill-requires Inv-loop μ-loop
+fill-requires c κs = let q = known (c .before) in (omega arith, omega arith)
 
 add-j : tie.Need-add-j Inv-loop μ-loop
 add-j c = omega arith
@@ -55,9 +55,9 @@ loop-again c =
     let S = c .before .before .before .before .before .before .before .before .before in
     let a = S .args in
     let l = c .before .before .before .before .before .before .loop in
-    let r = read (c .before .before .before .before) in
-    let o = c .before .before .list-one in
-    (omega arith, o .kept .0 ∙ l .inv .1, λ h. list-more (a .nodes) (cells (l .room)) (cells (o .last .0)) (now (a .ids)) (l .j) _ (r .0) (r .1) (omega (arith, length-cells (l .room))) (o .ensures) (l .inv .2 h))
+    let o = c .before .before .fill in
+    let r = c .before .before .before .before .number in
+    (omega arith, o .kept .0 ∙ l .inv .1, λ h. list-more (a .nodes) (cells (l .room)) _ (now (a .ids)) (a .r) (l .j) (r .result) (r .ensures .0) (known (c .before .before .before .before)) (omega (arith, length-cells (l .room))) (o .ensures) (l .inv .2 h))
 
 same-length : tie.Need-same-length Inv-loop μ-loop
 same-length c = c .before .loop .inv .1
@@ -75,10 +75,9 @@ list-ids-spec =
     Inv-loop
     μ-loop
     loop-holds
-    mul-get2
-    get2-requires
-    cast-id
-    list-one-requires
+    number-requires
+    mul-fill
+    fill-requires
     add-j
     loop-less
     loop-again

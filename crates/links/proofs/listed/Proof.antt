@@ -1,13 +1,12 @@
 -- `links::listed` meets its contract.
 -- Assumes nothing.
 use mathlib.Core.Bool.{not}
-use mathlib.Core.Path.{ap, _∙_}
-use Prim.Native.Nat.{ℕ}
+use mathlib.Core.Path.{_∙_}
 use lib.Dec.{eqb}
 use denote.Ref.{now}
 use borrow.Author.Needs.{needs}
 use Rattle.links.specs.Links.{cells}
-use Rattle.links.proofs.Cells.{marked-at}
+use Rattle.links.proofs.Cells.{listed-at}
 use Rattle.links.proofs.listed.Statement.{statement}
 use Rattle.links.proofs.listed.Tie as tie
 
@@ -17,8 +16,11 @@ mul-cell c = search needs
 cell-requires : tie.Need-cell-requires
 cell-requires c κs = search needs
 
+unlisted-requires : tie.Need-unlisted-requires
+unlisted-requires c κs = search needs
+
 returns : tie.Need-returns
-returns c = λ nodes l. let a = c .before .before .args in ap (λ (v : ℕ). not (eqb v 65535)) (c .cell .ensures .0) ∙ marked-at nodes (cells (now (a .room))) (a .id) l
+returns c = λ nodes l. let a = c .before .before .before .args in (λ i. not (eqb (c .before .cell .ensures .0 i) (c .unlisted .ensures i))) ∙ listed-at nodes (cells (now (a .room))) (a .id) l
 
 pub listed-spec : {M : Type 1} → statement M
-listed-spec = tie.close (tie.spec mul-cell cell-requires returns)
+listed-spec = tie.close (tie.spec mul-cell cell-requires unlisted-requires returns)

@@ -1,8 +1,8 @@
 -- `links::one_if_listed` meets its contract.
 -- Assumes nothing.
 use mathlib.Core.Path.{sym, _∙_}
-use native.Mathlib.Omega.{arith}
 use borrow.Author.Needs.{needs}
+use native.Mathlib.Omega.{arith}
 use Rattle.links.proofs.one_if_listed.Statement.{statement}
 use Rattle.links.proofs.one_if_listed.Tie as tie
 

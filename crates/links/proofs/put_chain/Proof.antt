@@ -1,73 +1,102 @@
 -- `links::put_chain` meets its contract.
 -- Assumes nothing.
-use Prim.Native.Nat.{_-_, _≤_, _<_}
-use native.Mathlib.Omega.{arith}
+use mathlib.Core.List.{List, [], _∷_}
+use mathlib.Core.Path.{_≡_, refl, sym, ap, _∙_}
+use Prim.Native.Nat.{ℕ, _+_, _-_, _*_, _≤_, _<_}
+use lib.ListN.{length}
 use denote.Ref.{now}
-use Rattle.links.specs.Links.{cells}
-use Rattle.links.proofs.Chains.{Putting, putting-start, putting-inside, putting-turn, putting-done}
+use Rattle.le.specs.Rows.{puts}
+use Rattle.le.proofs.Rows.{holds-less, holds-same, length-puts, puts-none}
+use Rattle.links.specs.Links.{cellCount}
+use Rattle.links.proofs.Chains.{Going, Turned, going-start, going-turn, going-within, going-done, starts-at, puts-before}
+use native.Mathlib.Omega.{arith}
 use Rattle.links.proofs.put_chain.Statement.{statement}
 use Rattle.links.proofs.put_chain.Tie as tie
 
 abbrev Inv-loop : tie.InvT-loop
-Inv-loop room nodes head out₀ end at₀ f₀ out at f = Putting nodes (cells room) head out₀ end out at f
+Inv-loop room nodes head out₀ r end at₀ f₀ out at f = (passed : List ℕ) × Going nodes room f₀ f passed × (at + length passed ≡ end) × (out ≡ puts out₀ r at passed)
 
 abbrev μ-loop : tie.MeasureT-loop
-μ-loop room nodes head out₀ end at₀ f₀ out at f = f
+μ-loop room nodes head out₀ r end at₀ f₀ out at f = f
 
 cell-requires : tie.Need-cell-requires Inv-loop μ-loop
-cell-requires c κs = omega arith
+cell-requires c κs = c .before .before .pre .0 .1 .head-held
 
 loop-holds : tie.Need-loop-holds Inv-loop μ-loop
-loop-holds c = let S = c .before .before .before in let a = S .args in putting-start (a .nodes) (cells (now (a .room))) (a .head) (now (a .out)) (a .end) (S .pre .1 .0) (S .pre .1 .1) (S .pre .1 .2) (c .cell .result) (c .cell .ensures .0)
+loop-holds c =
+    let S = c .before .before .before in
+    let a = S .args in
+    ([], going-start (a .nodes) (now (a .room)) (c .cell .result) _ (starts-at (S .pre .0 .1) (c .cell .result) (c .cell .ensures .0)), omega arith, sym (puts-none (now (a .out)) (a .r) (a .end)))
 
--- the next fresh node, and that there is room for it
-inside : (c : tie.In-loop Inv-loop μ-loop) → (c .before .before .before .before .before .args .nodes ≤ c .before .loop .f) × (c .before .loop .f < 2048) × (2 ≤ c .before .loop .at)
+-- the next fresh node has its cell, and there is room for it
+inside : (c : tie.In-loop Inv-loop μ-loop)
+    → (c .before .before .before .before .before .args .nodes * 3 + c .before .loop .f < cellCount (now (c .before .before .before .before .before .args .room))) × (1 ≤ c .before .loop .at)
 inside c =
-    let a = c .before .before .before .before .before .args in
+    let S = c .before .before .before .before .before in
+    let a = S .args in
     let l = c .before .loop in
-    putting-inside (a .nodes) (cells (now (a .room))) (a .head) (now (a .out)) (a .end) (l .out) (l .at) (l .f) (l .inv) (c .loop-test .taken)
+    let h = S .pre .0 .1 in
+    let first = c .before .before .cell in
+    let t = going-turn (a .nodes) (now (a .room)) (first .result) (l .f) (l .inv .0) (l .inv .1) (c .loop-test .taken) _ refl in
+    let within = going-within (a .nodes) (now (a .room)) (first .result) _ (l .f ∷ l .inv .0) (t .going) (h .backwards) (starts-at h (first .result) (first .ensures .0)) in
+    (t .inside, omega (arith, l .inv .2, within, ap length (h .order), S .pre .0 .2))
 
-turn : (c : tie.After-cell2 Inv-loop μ-loop)
-    → Putting (c .before .before .before .before .before .before .before .before .before .before .args .nodes) (cells (now (c .before .before .before .before .before .before .before .before .before .before .args .room)))
-    (c .before .before .before .before .before .before .before .before .before .before .args .head) (now (c .before .before .before .before .before .before .before .before .before .before .args .out))
-    (c .before .before .before .before .before .before .before .before .before .before .args .end) (c .before .before .before .put2 .last .0) (c .before .before .before .before .before .before .loop .at - 2) (c .cell2 .result)
-    × (c .cell2 .result < c .before .before .before .before .before .before .loop .f)
-turn c =
+turned : (c : tie.After-cell2 Inv-loop μ-loop)
+    → Turned (c .before .before .before .before .before .before .before .before .before .before .args .nodes) (now (c .before .before .before .before .before .before .before .before .before .before .args .room))
+    (c .before .before .before .before .before .before .before .cell .result) (c .before .before .before .before .before .before .loop .f) (c .cell2 .result) (c .before .before .before .before .before .before .loop .inv .0)
+turned c =
     let a = c .before .before .before .before .before .before .before .before .before .before .args in
     let l = c .before .before .before .before .before .before .loop in
-    let p = c .before .before .before .put2 in
-    putting-turn (a .nodes) (cells (now (a .room))) (a .head) (now (a .out)) (a .end) (l .out) (l .at) (l .f) (l .inv) (c .before .before .before .before .before .loop-test .taken)
-    (c .cell2 .result) (c .cell2 .ensures .0) (p .last .0) (p .kept .0) (p .ensures)
+    going-turn (a .nodes) (now (a .room)) (c .before .before .before .before .before .before .before .cell .result) (l .f) (l .inv .0) (l .inv .1) (c .before .before .before .before .before .loop-test .taken) (c .cell2 .result) (c .cell2 .ensures .0)
 
 sub-at : tie.Need-sub-at Inv-loop μ-loop
-sub-at c = inside c .2
+sub-at c = inside c .1
 
-cast-put2 : tie.Need-cast-put2 Inv-loop μ-loop
-cast-put2 c = omega (arith, inside (c .before) .1)
-
-put2-requires : tie.Need-put2-requires Inv-loop μ-loop
-put2-requires c κs = let i = c .before .before .loop .inv in omega (arith, inside (c .before) .2, i .place, i .long)
+put-number-requires : tie.Need-put-number-requires Inv-loop μ-loop
+put-number-requires c κs =
+    let S = c .before .before .before .before .before .before in
+    let l = c .before .before .loop in
+    let e = l .inv .2 in (
+      holds-same (holds-less (S .pre .1) _ (omega (arith, inside (c .before) .1))) (l .out) (ap length (l .inv .3) ∙ length-puts (now (S .args .out)) (S .args .r) (l .at) (l .inv .0)),
+      omega (arith, l .inv .1 .few, c .before .before .before .cell .ensures .1),
+    )
 
 mul-cell : tie.Need-mul-cell Inv-loop μ-loop
 mul-cell c = omega arith
 
 add-cell : tie.Need-add-cell Inv-loop μ-loop
-add-cell c = omega (arith, inside (c .before .before .before .before) .1)
+add-cell c = omega (arith, inside (c .before .before .before .before) .0)
 
 cell-requires-2 : tie.Need-cell-requires-2 Inv-loop μ-loop
-cell-requires-2 c κs = omega (arith, inside (c .before .before .before .before) .1)
+cell-requires-2 c κs = inside (c .before .before .before .before) .0
 
 loop-less : tie.Need-loop-less Inv-loop μ-loop
-loop-less c = turn c .1
+loop-less c = turned c .falls
 
 loop-again : tie.Need-loop-again Inv-loop μ-loop
-loop-again c = turn c .0
+loop-again c =
+    let a = c .before .before .before .before .before .before .before .before .before .before .args in
+    let l = c .before .before .before .before .before .before .loop in
+    let one = inside (c .before .before .before .before .before) .1 in
+    let e = l .inv .2 in (
+      l .f ∷ l .inv .0,
+      turned c .going,
+      omega arith,
+      c .before .before .before .put-number .ensures ∙ ap (λ (o : List ℕ). puts o (a .r) (l .at - 1) (l .f ∷ [])) (l .inv .3)
+          ∙ puts-before (now (a .out)) (a .r) (l .at - 1) (l .at) (l .f ∷ []) (l .inv .0) (omega arith),
+    )
 
 same-length : tie.Need-same-length Inv-loop μ-loop
-same-length c = c .before .loop .inv .long
+same-length c = let a = c .before .before .before .before .before .args in let l = c .before .loop in ap length (l .inv .3) ∙ length-puts (now (a .out)) (a .r) (l .at) (l .inv .0)
 
 returns : tie.Need-returns Inv-loop μ-loop
-returns c = let a = c .before .before .before .before .before .args in let l = c .before .loop in putting-done (a .nodes) (cells (now (a .room))) (a .head) (now (a .out)) (a .end) (l .out) (l .at) (l .f) (l .inv) (c .loop-test .left)
+returns c = λ es h.
+    let a = c .before .before .before .before .before .args in
+    let l = c .before .loop in
+    let first = c .before .before .cell in
+    let e : l .inv .0 ≡ es = sym (going-done (a .nodes) (now (a .room)) (first .result) (l .f) (l .inv .0) (l .inv .1) (c .loop-test .left) _ (starts-at h (first .result) (first .ensures .0))) ∙ h .order in
+    let place : l .at ≡ a .end - length es = omega (arith, l .inv .2, ap length e) in
+    l .inv .3 ∙ (λ i. puts (now (a .out)) (a .r) (place i) (e i))
 
 pub put-chain-spec : {M : Type 1} → statement M
 put-chain-spec =
@@ -78,8 +107,7 @@ put-chain-spec =
     cell-requires
     loop-holds
     sub-at
-    cast-put2
-    put2-requires
+    put-number-requires
     mul-cell
     add-cell
     cell-requires-2

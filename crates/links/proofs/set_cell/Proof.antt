@@ -1,28 +1,32 @@
 -- `links::set_cell` meets its contract.
 -- Assumes nothing.
+use mathlib.Core.List.{[], _∷_}
 use mathlib.Core.Path.{ap, _∙_}
 use native.Mathlib.Omega.{arith}
 use denote.Ref.{now}
 use borrow.Author.Needs.{needs}
+use Rattle.le.specs.Rows.{puts}
+use Rattle.le.specs.declared.Row.{Row}
 use Rattle.links.specs.Links.{cells}
-use Rattle.links.proofs.Cells.{set-cells}
+use Rattle.links.proofs.Cells.{cells-held, set-cells}
 use Rattle.links.proofs.set_cell.Statement.{statement}
 use Rattle.links.proofs.set_cell.Tie as tie
 
-mul-put2 : tie.Need-mul-put2
-mul-put2 c = search needs
+cell-row-requires : tie.Need-cell-row-requires
+cell-row-requires c κs = search needs
 
-cast-put2 : tie.Need-cast-put2
-cast-put2 c = search needs
-
-put2-requires : tie.Need-put2-requires
-put2-requires c κs = search needs
+put-number-requires : tie.Need-put-number-requires
+put-number-requires c κs = (rw (c .cell-row .ensures) (cells-held _ _ (omega arith)), omega arith)
 
 same-length : tie.Need-same-length
 same-length c = search needs
 
 returns : tie.Need-returns
-returns c = let a = c .before .before .before .before .before .args in ap cells (c .before .before .put2 .ensures) ∙ set-cells (now (a .room)) (a .i) (a .v) (omega arith) (omega arith)
+returns c =
+    let S = c .before .before .before .before .before .before in
+    let a = S .args in
+    ap cells (c .before .before .put-number .ensures) ∙ ap (λ (r : Row). cells (puts (now (a .room)) r (a .i) (a .v ∷ []))) (c .before .before .before .cell-row .ensures)
+    ∙ set-cells (now (a .room)) (a .i) (S .pre .0) (a .v) (S .pre .1)
 
 pub set-cell-spec : {M : Type 1} → statement M
-set-cell-spec = tie.close (tie.spec mul-put2 cast-put2 put2-requires same-length returns)
+set-cell-spec = tie.close (tie.spec cell-row-requires put-number-requires same-length returns)

@@ -1,18 +1,12 @@
 -- `ohg::ohg_delete_edges` meets its contract.
 -- Assumes nothing.
-use mathlib.Core.Path.{sym, ap, _∙_, subst}
 use native.Mathlib.Omega.{arith}
 use lib.ListN.{length}
 use denote.Ref.{now}
 use borrow.Author.Needs.{needs}
-use Rattle.graph.specs.Calls.{inWorkRoom, onGraph, deleteEdgesStep}
-use Rattle.graph.specs.Graph.{form1}
-use Rattle.ohg.specs.Packed.{packedWritten, Packs}
-use Rattle.graph.proofs.Answers.{delete-edges-kept}
-use Rattle.graph.proofs.Refusals.{delete-edges-listed}
 use Rattle.le.proofs.Numbers.{below-each}
-use Rattle.ohg.proofs.Ids.{delete-edges-id}
-use Rattle.ohg.proofs.Packs.{on-graph-packs, room-packs, same-made}
+use Rattle.ohg.proofs.Packing.{packs, returns-of}
+use Rattle.ohg.proofs.Ranges.{delete-edges-ranged}
 use Rattle.ohg.proofs.ohg_delete_edges.Statement.{statement}
 use Rattle.ohg.proofs.ohg_delete_edges.Tie as tie
 
@@ -22,11 +16,8 @@ delete-edges-requires c κs = search needs
 pack-requires : tie.Need-pack-requires
 pack-requires c κs =
     let a = c .before .before .before .before .before .before .before .before .before .before .before .args in
-    let t = below-each 256 (now (a .src)) (λ i l. omega (arith, c .before .before .before .before .before .before .before .before .before .before .shared-slice-known .given i)) in
-    let step = deleteEdgesStep form1 (now (a .ids)) in
-    subst Packs (sym (c .before .before .before .before .delete-edges .ensures .0))
-    (room-packs 2048 (length (now (a .room))) (onGraph form1 (now (a .src)) (length (now (a .out))) step)
-    (on-graph-packs (now (a .src)) (length (now (a .out))) step t (delete-edges-kept form1 (now (a .ids))) (delete-edges-listed form1 (now (a .ids))) (delete-edges-id (now (a .ids)))))
+    let t-src = below-each 256 (now (a .src)) (λ i l. omega (arith, c .before .before .before .before .before .before .before .before .before .before .shared-slice-known .given i)) in
+    packs (delete-edges-ranged (now (a .src)) t-src (length (now (a .out))) (now (a .ids)) (length (now (a .room)))) (c .before .before .before .before .delete-edges .ensures .result)
 
 same-length : tie.Need-same-length
 same-length c = search needs
@@ -35,12 +26,7 @@ same-length-2 : tie.Need-same-length-2
 same-length-2 c = search needs
 
 returns : tie.Need-returns
-returns c =
-    let a = c .before .before .before .before .before .before .before .before .before .before .before .before .args in
-    let w = c .before .before .before .before .before .delete-edges in
-    let all = inWorkRoom 2048 (length (now (a .room))) (onGraph form1 (now (a .src)) (length (now (a .out))) (deleteEdgesStep form1 (now (a .ids)))) in
-    (c .pack .ensures ∙ ap packedWritten (w .ensures .0) ∙ same-made all, w .ensures .1)
+returns c = returns-of (c .before .before .before .before .before .delete-edges .ensures) (c .pack .ensures)
 
 pub ohg-delete-edges-spec : {M : Type 1} → statement M
-ohg-delete-edges-spec =
-    tie.close (tie.spec delete-edges-requires pack-requires same-length same-length-2 returns)
+ohg-delete-edges-spec = tie.close (tie.spec delete-edges-requires pack-requires same-length same-length-2 returns)

@@ -1,22 +1,24 @@
 -- `ohg::ohg_no_loop` meets its contract.
 -- Assumes nothing.
-use mathlib.Core.Path.{ap, _∙_}
+use native.Mathlib.Omega.{arith}
 use lib.ListN.{length}
 use denote.Ref.{now}
 use borrow.Author.Needs.{needs}
+use Rattle.le.proofs.Numbers.{below-each}
 use Rattle.choice.specs.Calls.{noLoopCall}
-use Rattle.graph.specs.Calls.{inWorkRoom}
-use Rattle.graph.specs.Graph.{form1}
-use Rattle.ohg.specs.Packed.{packedChecked}
-use Rattle.ohg.proofs.Packs.{same-checked}
+use Rattle.ohg.proofs.Packing.{packs, returned}
+use Rattle.ohg.proofs.Ranges.{no-loop-ranged}
 use Rattle.ohg.proofs.ohg_no_loop.Statement.{statement}
 use Rattle.ohg.proofs.ohg_no_loop.Tie as tie
 
 no-loop-requires : tie.Need-no-loop-requires
 no-loop-requires c κs = search needs
 
-pack-check-requires : tie.Need-pack-check-requires
-pack-check-requires c κs = search needs
+pack-requires : tie.Need-pack-requires
+pack-requires c κs =
+    let a = c .before .before .before .before .before .before .args in
+    let t-src = below-each 256 (now (a .src)) (λ i l. omega (arith, c .before .before .before .before .before .shared-slice-known .given i)) in
+    packs (no-loop-ranged (now (a .src)) t-src (length (now (a .room)))) (c .before .before .no-loop .ensures)
 
 same-length : tie.Need-same-length
 same-length c = search needs
@@ -24,7 +26,7 @@ same-length c = search needs
 returns : tie.Need-returns
 returns c =
     let a = c .before .before .before .before .before .before .before .args in
-    c .pack-check .ensures ∙ ap packedChecked (c .before .before .before .no-loop .ensures) ∙ same-checked (inWorkRoom 303104 (length (now (a .room))) (noLoopCall form1 (now (a .src))))
+    returned (noLoopCall (now (a .src)) (length (now (a .room)))) (c .before .before .before .no-loop .ensures) (c .pack .ensures)
 
 pub ohg-no-loop-spec : {M : Type 1} → statement M
-ohg-no-loop-spec = tie.close (tie.spec no-loop-requires pack-check-requires same-length returns)
+ohg-no-loop-spec = tie.close (tie.spec no-loop-requires pack-requires same-length returns)

@@ -3,17 +3,17 @@
 use mathlib.Core.Path.{ap, subst}
 use native.Mathlib.Omega.{arith}
 use borrow.Author.Needs.{needs}
-use Rattle.form.specs.declared.Written.the-variants.{Done}
-use Rattle.ohg.specs.Packed.{packedWritten, Packs}
+use Rattle.form.specs.declared.Outcome.the-variants.{Done}
+use Rattle.ohg.specs.Packed.{packedOutcome, Packs}
 use Rattle.ohg.proofs.pack.Statement.{statement}
 use Rattle.ohg.proofs.pack.Tie as tie
 
 -- the numbers of an answer that was written fit
-fits : (c : tie.After-known-told) → Packs (Done (c .before .w .given .0 .0) (c .before .w .given .0 .1 .0))
-fits c = subst Packs (c .before .w .given .1) (c .before .before .before .pre)
+fits : (c : tie.After-known-told) → Packs (Done (c .before .x .given .0 .0) (c .before .x .given .0 .1 .0))
+fits c = subst Packs (c .before .x .given .1) (c .before .before .before .pre)
 
-enum-known-w : tie.Need-enum-known-w
-enum-known-w c = search needs
+enum-known-x : tie.Need-enum-known-x
+enum-known-x c = search needs
 
 mul-result : tie.Need-mul-result
 mul-result c = let h = fits c in omega arith
@@ -24,27 +24,27 @@ mul-result-2 c = let h = fits c in omega arith
 add-result : tie.Need-add-result
 add-result c = let h = fits c in omega arith
 
-enum-known-w-2 : tie.Need-enum-known-w-2
-enum-known-w-2 c = search needs
+enum-known-x-2 : tie.Need-enum-known-x-2
+enum-known-x-2 c = search needs
 
 cast-result : tie.Need-cast-result
 cast-result c = search needs
 
 returns : tie.Need-returns
-returns c = omega (arith, ap packedWritten (c .before .w .given .1))
+returns c = omega (arith, ap packedOutcome (c .before .x .given .1))
 
 returns-2 : tie.Need-returns-2
-returns-2 c = omega (arith, ap packedWritten (c .before .before .w2 .given .1))
+returns-2 c = omega (arith, ap packedOutcome (c .before .before .x2 .given .1))
 
 pub pack-spec : {M : Type 1} → statement M
 pack-spec =
     tie.close
     (tie.spec
-    enum-known-w
+    enum-known-x
     mul-result
     mul-result-2
     add-result
-    enum-known-w-2
+    enum-known-x-2
     cast-result
     returns
     returns-2)

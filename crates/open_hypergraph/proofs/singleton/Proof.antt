@@ -1,142 +1,85 @@
 -- `open_hypergraph::singleton` meets its contract.
 -- Assumes nothing.
-use mathlib.Core.Path.{ap, _∙_}
+use mathlib.Core.Logic.{inr}
+use mathlib.Core.Path.{refl, _∙_}
 use native.Mathlib.Omega.{arith}
-use lib.ListN.{length}
 use denote.Ref.{now}
+use lib.ListN.{length}
 use borrow.Author.Needs.{needs}
-use Rattle.form.specs.Form.{listRefusal, fitRefusal}
-use Rattle.graph.specs.Calls.{labelList}
-use Rattle.hypergraph.proofs.Ends.{ends-refused, ends-unfit, ends-room, ends-done}
-use Rattle.hypergraph.proofs.Listed.{Row, unlisted, labels-listed}
-use Rattle.le.proofs.Numbers.{below-each}
-use Rattle.open_hypergraph.proofs.Forms.{singleton-sources-7, singleton-targets-7, singleton-made, singleton-sizes, singleton-form}
+use Rattle.graph.specs.Build.{singleton}
+use Rattle.graph.specs.Calls.{labelList, singletonStep, singletonCall}
+use Rattle.form.proofs.Answers.{list-refused}
+use Rattle.write.proofs.Calls.{nothing-stopped-gives}
+use Rattle.hypergraph.specs.Lent.{lent}
+use Rattle.hypergraph.proofs.Calls.{Ends, nothing-ends, passed-on}
+use Rattle.hypergraph.proofs.Listed.{Given, labels-given}
+use Rattle.open_hypergraph.proofs.Forms.{singleton-sources, singleton-targets, singleton-next, singleton-sizes}
 use Rattle.open_hypergraph.proofs.singleton.Statement.{statement}
 use Rattle.open_hypergraph.proofs.singleton.Tie as tie
 
 -- the lists in the call
-sources : (c : tie.After-known-told) → Row 4 (now (c .before .before .before .before .before .before .before .args .sources)) (labelList (now (c .before .before .before .before .before .before .before .args .sources))) (c .before .from .given .0 .0)
-sources c =
-    let b = now (c .before .before .before .before .before .before .before .args .sources) in
-    labels-listed b (below-each 256 b (λ i l. omega (arith, c .before .before .before .before .before .before .shared-slice-known .given i))) (c .before .before .before .label-list .result) (c .before .from .given .0 .0) (c .before .from .given .1) (c .before .before .before .label-list .ensures)
+from : (c : tie.After-known-told) → Given (labelList (now (c .before .before .before .before .before .before .before .args .sources))) (now (c .before .before .before .before .before .before .before .args .sources)) 4 (c .before .from .given .0 .0)
+from c = labels-given _ (c .before .before .before .label-list .result) _ (c .before .from .given .1) (inr refl) (c .before .before .before .label-list .ensures)
 
-targets : (c : tie.After-known-told2) → Row 4 (now (c .before .before .before .before .before .before .before .before .before .before .before .args .targets)) (labelList (now (c .before .before .before .before .before .before .before .before .before .before .before .args .targets))) (c .before .to .given .0 .0)
-targets c =
-    let b = now (c .before .before .before .before .before .before .before .before .before .before .before .args .targets) in
-    labels-listed b (below-each 256 b (λ i l. omega (arith, c .before .before .before .before .before .before .before .before .before .shared-slice-known2 .given i))) (c .before .before .before .label-list2 .result) (c .before .to .given .0 .0) (c .before .to .given .1) (c .before .before .before .label-list2 .ensures)
+to : (c : tie.After-known-told2) → Given (labelList (now (c .before .before .before .before .before .before .before .before .before .before .before .args .targets))) (now (c .before .before .before .before .before .before .before .before .before .before .before .args .targets)) 4 (c .before .to .given .0 .0)
+to c = labels-given _ (c .before .before .before .label-list2 .result) _ (c .before .to .given .1) (inr refl) (c .before .before .before .label-list2 .ensures)
 
-label-list-requires : tie.Need-label-list-requires
-label-list-requires c κs = search needs
-
-enum-known-from : tie.Need-enum-known-from
-enum-known-from c = search needs
-
-enum-told : tie.Need-enum-told
-enum-told c = search needs
-
-refusal-requires : tie.Need-refusal-requires
-refusal-requires c κs = search needs
+ends : (c : tie.After-result-size) → Ends (singletonCall (c .before .before .before .before .before .before .before .before .before .before .before .before .before .args .label) (now (c .before .before .before .before .before .before .before .before .before .before .before .before .before .args .sources)) (now (c .before .before .before .before .before .before .before .before .before .before .before .before .before .args .targets)) (length (now (c .before .before .before .before .before .before .before .before .before .before .before .before .before .args .out))))
+    (now (c .before .before .before .before .before .before .before .before .before .before .before .before .before .args .out)) (c .before .sized .result) (c .result-size .result)
+    (singleton (c .before .before .before .before .before .before .before .before .before .before .before .before .before .args .label) (lent (now (c .before .before .before .before .before .before .before .before .before .before .before .before .before .args .sources)) 4 (c .before .before .before .before .before .before .before .from .given .0 .0)) (lent (now (c .before .before .before .before .before .before .before .before .before .before .before .before .before .args .targets)) 4 (c .before .before .before .to .given .0 .0))) 0
+ends c =
+    let a = c .before .before .before .before .before .before .before .before .before .before .before .before .before .args in
+    nothing-ends (now (a .out)) _ _ (c .before .sized .ensures ∙ singleton-sizes (a .label) (now (a .sources)) (now (a .targets)) _ _) (c .result-size .ensures)
+    (singletonStep (a .label) (now (a .sources)) (now (a .targets)))
+    (singleton-next (a .label) (now (a .sources)) (now (a .targets)) (from (c .before .before .before .before .before .before) .answers) (to (c .before .before) .answers))
 
 returns : tie.Need-returns
 returns c =
     let a = c .before .before .before .before .before .before .before .args in
-    let x = c .before .enum-told .given in
     let r = c .before .before .before .label-list in
-    ends-refused _ (now (a .out)) (x .0 .0) (c .refusal .result)
-    (singleton-sources-7 (length (now (a .out))) (a .label) (now (a .sources)) (now (a .targets)) (x .0 .0 .no) (unlisted _ (r .result) (r .ensures) (x .0 .0) (x .1)))
-    (c .refusal .ensures ∙ ap listRefusal (x .1))
-
-label-list-requires-2 : tie.Need-label-list-requires-2
-label-list-requires-2 c κs = search needs
-
-enum-known-to : tie.Need-enum-known-to
-enum-known-to c = search needs
-
-enum-told-2 : tie.Need-enum-told-2
-enum-told-2 c = search needs
-
-refusal-requires-2 : tie.Need-refusal-requires-2
-refusal-requires-2 c κs = search needs
+    nothing-stopped-gives _ (now (a .out)) _
+    (singleton-sources (a .label) (now (a .sources)) (now (a .targets)) (list-refused _ (r .result) (r .ensures) _ (passed-on (c .before .enum-told .given .1) (c .refusal .ensures))))
 
 returns-2 : tie.Need-returns-2
 returns-2 c =
     let a = c .before .before .before .before .before .before .before .before .before .before .before .args in
-    let x = c .before .enum-told2 .given in
     let r = c .before .before .before .label-list2 in
-    let p = sources (c .before .before .before .before) in
-    ends-refused _ (now (a .out)) (x .0 .0) (c .refusal2 .result)
-    (singleton-targets-7 (length (now (a .out))) (a .label) (now (a .sources)) (now (a .targets)) (p .entries) (p .read) (x .0 .0 .no) (unlisted _ (r .result) (r .ensures) (x .0 .0) (x .1)))
-    (c .refusal2 .ensures ∙ ap listRefusal (x .1))
-
-add-n : tie.Need-add-n
-add-n c = omega (arith, sources (c .before .before .before .before) .long, targets c .long)
-
-result-size-requires : tie.Need-result-size-requires
-result-size-requires c κs = search needs
-
-enum-known-fit : tie.Need-enum-known-fit
-enum-known-fit c = search needs
-
-enum-told-3 : tie.Need-enum-told-3
-enum-told-3 c = search needs
-
-refusal-requires-3 : tie.Need-refusal-requires-3
-refusal-requires-3 c κs = search needs
-
-returns-3 : tie.Need-returns-3
-returns-3 c =
-    let a = c .before .before .before .before .before .before .before .before .before .before .before .before .before .before .before .args in
-    let p = sources (c .before .before .before .before .before .before .before .before) in
-    let q = targets (c .before .before .before .before) in
-    let r = c .before .before .before .result-size in
-    let x = c .before .enum-told3 .given in
-    ends-unfit _ (now (a .out)) _ (singleton-made (length (now (a .out))) (a .label) (now (a .sources)) (now (a .targets)) (p .entries) (p .read) (q .entries) (q .read)) _ (singleton-sizes (a .label) (p .entries) (q .entries) _ _ (p .many) (q .many))
-    (r .result) (r .ensures) (x .0 .0) (c .refusal3 .result) (x .1) (c .refusal3 .ensures ∙ ap fitRefusal (x .1))
+    nothing-stopped-gives _ (now (a .out)) _
+    (singleton-targets (a .label) (now (a .sources)) (now (a .targets)) (from (c .before .before .before .before) .answers)
+    (list-refused _ (r .result) (r .ensures) _ (passed-on (c .before .enum-told2 .given .1) (c .refusal2 .ensures))))
 
 put-singleton-requires : tie.Need-put-singleton-requires
 put-singleton-requires c κs =
-    let a = c .before .before .before .before .before .before .before .before .before .before .before .before .before .before .before .before .args in
-    let p = sources (c .before .before .before .before .before .before .before .before .before) in
-    let q = targets (c .before .before .before .before .before) in
-    let r = c .before .before .before .before .result-size in
-    let x = c .before .before .fit .given in
-    let h = ends-room _ (now (a .out)) _ (singleton-made (length (now (a .out))) (a .label) (now (a .sources)) (now (a .targets)) (p .entries) (p .read) (q .entries) (q .read)) _ (singleton-sizes (a .label) (p .entries) (q .entries) _ _ (p .many) (q .many)) (r .result) (r .ensures) (x .0 .0) (x .1) in
-    (h .within .sources, h .within .targets, omega (arith, h .room, p .long, q .long))
-
-same-length : tie.Need-same-length
-same-length c = search needs
-
-returns-4 : tie.Need-returns-4
-returns-4 c =
-    let a = c .before .before .before .before .before .before .before .before .before .before .before .before .before .before .before .before .before .before .before .args in
-    let p = sources (c .before .before .before .before .before .before .before .before .before .before .before .before) in
-    let q = targets (c .before .before .before .before .before .before .before .before) in
-    let r = c .before .before .before .before .before .before .before .result-size in
-    let x = c .before .before .before .before .before .fit .given in
-    let w = c .before .before .put-singleton in
-    ends-done _ (now (a .out)) _ (singleton-made (length (now (a .out))) (a .label) (now (a .sources)) (now (a .targets)) (p .entries) (p .read) (q .entries) (q .read)) _ (singleton-sizes (a .label) (p .entries) (q .entries) _ _ (p .many) (q .many)) (r .result) (r .ensures) (x .0 .0) (x .1) (w .last .0) _ (w .ensures)
-    (singleton-form (a .label) (p .entries) (q .entries) _ _ (p .many) (q .many) (now (a .sources)) (now (a .targets)) (p .row-is) (q .row-is))
+    let y = c .before .before .before .before .before .sized .ensures in (
+      ends (c .before .before .before .before) .room (c .before .before .size .given .1),
+      rw y (omega arith),
+      rw y (omega arith),
+      rw y (omega arith),
+      from (c .before .before .before .before .before .before .before .before .before .before) .there,
+      to (c .before .before .before .before .before .before) .there,
+    )
 
 pub singleton-spec : {M : Type 1} → statement M
 singleton-spec =
     tie.close
     (tie.spec
-    label-list-requires
-    enum-known-from
-    enum-told
-    refusal-requires
+    (λ c κs. search needs)
+    (λ c. search needs)
+    (λ c. search needs)
+    (λ c κs. search needs)
     returns
-    label-list-requires-2
-    enum-known-to
-    enum-told-2
-    refusal-requires-2
+    (λ c κs. search needs)
+    (λ c. search needs)
+    (λ c. search needs)
+    (λ c κs. search needs)
     returns-2
-    add-n
-    result-size-requires
-    enum-known-fit
-    enum-told-3
-    refusal-requires-3
-    returns-3
+    (λ c. omega (arith, from (c .before .before .before .before) .there .inside, to c .there .inside))
+    (λ c κs. search needs)
+    (λ c κs. rw (c .sized .ensures))
+    (λ c. search needs)
+    (λ c. search needs)
+    (λ c κs. search needs)
+    (λ c. ends (c .before .before .before) .refuses (c .before .enum-told3 .given .1) (c .refusal3 .ensures))
     put-singleton-requires
-    same-length
-    returns-4)
+    (λ c. search needs)
+    (λ c. ends (c .before .before .before .before .before .before .before) .done (c .before .before .before .before .before .size .given .1) (c .before .before .put-singleton .ensures)))

@@ -7,7 +7,7 @@ use lib.ListN.{length}
 use Rattle.incidence.specs.Tables.{arcsIn}
 use Rattle.le.specs.Le.{words}
 use Rattle.removal.specs.Engine.{Room, live}
-use Rattle.choice.proofs.Degrees.{inner}
+use Rattle.choice.specs.Degrees.{inner}
 use Rattle.removal.proofs.Peeling.{Peeling, peeling-start, state-here, peeling-turn, peeling-done}
 use Rattle.removal.proofs.peel.Statement.{statement}
 use Rattle.removal.proofs.peel.Tie as tie

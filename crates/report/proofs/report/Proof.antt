@@ -7,11 +7,12 @@ use native.Mathlib.Omega.{arith}
 use lib.ListN.{length}
 use denote.Ref.{now}
 use borrow.Author.Needs.{needs}
-use Rattle.form.specs.Form.{readRefusal}
+use Rattle.form.specs.Form.{meantBy, refusalRead}
+use Rattle.form.specs.Stored.{Stored}
 use Rattle.form.specs.declared.Refusal.{Refusal}
 use Rattle.report.specs.Report.{refusedLine}
-use Rattle.report.specs.Text.{Put}
-use Rattle.form.proofs.Whole.{Stored, stored-graph, unread}
+use Rattle.report.specs.Text.{Printed}
+use Rattle.form.proofs.Stored.{stored, unread}
 use Rattle.le.proofs.Numbers.{below-each}
 use Rattle.report.proofs.Reports.{Drawing, text-unread, text-refused, text-done}
 use Rattle.report.proofs.report.Statement.{statement}
@@ -21,8 +22,10 @@ use Rattle.report.proofs.report.Tie as tie
 form : (c : tie.After-known-told) → Stored (now (c .before .before .before .before .before .before .before .before .args .src)) (c .before .graph .given .0 .0)
 form c =
     let b = now (c .before .before .before .before .before .before .before .before .args .src) in
-    stored-graph b (below-each 256 b (λ i l. omega (arith, c .before .before .before .before .before .before .before .shared-slice-known .given i)))
-    (c .before .before .before .read .result) (c .before .before .before .read .ensures) (c .before .graph .given .0 .0) (c .before .graph .given .1)
+    let r = c .before .before .before .read in
+    let x = c .before .graph .given in
+    stored b (r .result) (r .ensures)
+    (below-each 256 b (λ i l. omega (arith, c .before .before .before .before .before .before .before .shared-slice-known .given i))) (x .0 .0) (x .1)
 
 -- the choice that was made
 drawing : (c : tie.After-known-told2)
@@ -40,7 +43,7 @@ drawing c =
     let r = chose .cycle-breaking-nodes in
     let x = c .before .choice .given in
     text-done (now (a .src)) (known .before .graph .given .0 .0) (form known) (now (a .list)) (length (now (a .room))) (start .pre .0) (start .pre .1)
-    (r .result) (r .ensures .0) (x .0 .0) (x .0 .1 .0) (x .1) (r .last .1 .0) (r .ensures .1)
+    (r .result) (r .last .1 .0) (r .ensures) (x .0 .0) (x .0 .1 .0) (x .1)
 
 read-requires : tie.Need-read-requires
 read-requires c κs = search needs
@@ -66,9 +69,9 @@ returns c =
     let r = c .before .before .before .before .before .before .before .read in
     let x = c .before .before .before .before .before .enum-told .given in
     let p = c .before .before .put-refusal in
-    let e = ap (λ (y : Refusal). refusedLine (y .no)) (c .before .before .before .refusal .ensures ∙ ap readRefusal (x .1))
-    ∙ text-unread (now (a .src)) (x .0 .0 .no) (unread (now (a .src)) (r .result) (r .ensures) (x .0 .0) (x .1)) in
-    (subst (λ (t : List ℕ). Put (now (a .out)) 0 t (p .last .0) (p .result)) e (p .ensures .0), p .ensures .1)
+    let e = ap (λ (y : Refusal). refusedLine (y .no)) (c .before .before .before .refusal .ensures ∙ ap refusalRead (x .1))
+    ∙ text-unread (now (a .src)) (meantBy (x .0 .0)) (unread (now (a .src)) (r .result) (r .ensures) (x .0 .0) (x .1)) in
+    (subst (λ (t : List ℕ). Printed (now (a .out)) 0 t (p .last .0) (p .result)) e (p .ensures .0), p .ensures .1)
 
 cycle-breaking-nodes-requires : tie.Need-cycle-breaking-nodes-requires
 cycle-breaking-nodes-requires c κs = search needs
@@ -99,7 +102,7 @@ returns-2 c =
     let p = c .before .before .put-drawing in
     let known = c .before .before .before .before .before .before .before .before .before .before .before .before .before .before .before in
     let a = known .before .before .before .before .before .before .before .before .args in
-    (subst (λ (t : List ℕ). Put (now (a .out)) 0 t (p .last .0) (p .result)) (drawing (c .before .before .before .before .before) .text) (p .ensures .0), p .ensures .1)
+    (subst (λ (t : List ℕ). Printed (now (a .out)) 0 t (p .last .0) (p .result)) (drawing (c .before .before .before .before .before) .text) (p .ensures .0), p .ensures .1)
 
 same-length-5 : tie.Need-same-length-5
 same-length-5 c = search needs
@@ -120,8 +123,8 @@ returns-3 c =
     let x = c .before .before .before .before .before .choice2 .given in
     let p = c .before .before .put-refusal2 in
     let e = text-refused (now (a .src)) (known .before .graph .given .0 .0) (form known) (now (a .list)) (length (now (a .room))) (start .pre .0) (start .pre .1)
-    (r .result) (r .ensures .0) (x .0 .0) (x .1) in
-    (subst (λ (t : List ℕ). Put (now (a .out)) 0 t (p .last .0) (p .result)) e (p .ensures .0), p .ensures .1)
+    (r .result) (r .last .1 .0) (r .ensures) (x .0 .0) (x .1) in
+    (subst (λ (t : List ℕ). Printed (now (a .out)) 0 t (p .last .0) (p .result)) e (p .ensures .0), p .ensures .1)
 
 pub report-spec : {M : Type 1} → statement M
 report-spec =

@@ -1,84 +1,61 @@
 -- `spider::count_edges` meets its contract.
 -- Assumes nothing.
 use mathlib.Core.List.{List}
-use mathlib.Core.Path.{_≡_, refl, sym, ap, _∙_, subst}
-use Prim.Native.Nat.{ℕ, _+_, _*_, _-_, _≤_}
-use native.Mathlib.Omega.{arith}
-use lib.ListN.{length, drop, take}
+use mathlib.Core.Path.{_≡_, refl, ap, _∙_}
+use Prim.Native.Nat.{ℕ, _+_, _-_, _≤_}
+use lib.ListN.{length, take}
 use denote.Ref.{now}
+use Rattle.form.specs.Form.{bodyOf}
+use Rattle.form.specs.Stored.{graphOf}
+use Rattle.form.proofs.Stored.{stored-rows}
+use Rattle.graph.specs.Form.{edgeStart}
 use Rattle.graph.specs.Graph.{Edge, edgeEntries}
 use Rattle.graph.specs.Lists.{keep}
-use Rattle.le.specs.Le.{numbers}
-use Rattle.links.specs.Links.{cells, marked}
-use Rattle.form.specs.Stored.{graphOf}
-use Rattle.spider.proofs.Edges.{count-turn}
-use Rattle.form.proofs.Walk.{At, start, here, few, all-edges, edge-read}
+use Rattle.le.proofs.Rows.{holds-index, length-span}
+use Rattle.links.specs.Links.{cells, isListed}
+use Rattle.links.proofs.Cells.{keep-more}
+use Rattle.spider.specs.Rewriting.{idsAt}
+use Rattle.spider.proofs.Lists.{EdgeRead, edge-held, edge-read, all-edges, keep-few}
+use native.Mathlib.Omega.{arith}
 use Rattle.spider.proofs.count_edges.Statement.{statement}
 use Rattle.spider.proofs.count_edges.Tie as tie
 
 abbrev Inv-loop : tie.InvT-loop
-Inv-loop src z room at₀ count₀ i₀ i-end at count i = (i ≤ z .edges) × (i-end ≡ z .edges) × At src i at × (count ≤ i * 131072)
-    × (count ≡ length (keep (marked (z .nodes) (cells room)) (edgeEntries (take i (graphOf src .edges)))))
+Inv-loop src z room row k₀ count₀ i₀ i-end k count i = (i ≤ z .edges) × (i-end ≡ z .edges) × (k ≡ edgeStart (graphOf src .edges) i) × (count ≤ k)
+    × (count ≡ length (keep (isListed (z .nodes) (cells room)) (edgeEntries (take i (graphOf src .edges)))))
 
 abbrev μ-loop : tie.MeasureT-loop
-μ-loop src z room at₀ count₀ i₀ i-end at count i = z .edges - i
+μ-loop src z room row k₀ count₀ i₀ i-end k count i = z .edges - i
 
-edges-at-requires : tie.Need-edges-at-requires Inv-loop μ-loop
-edges-at-requires c κs = few (c .before .before .pre .0)
+body-row-requires : tie.Need-body-row-requires Inv-loop μ-loop
+body-row-requires c κs = stored-rows (c .before .before .pre .0) .low
 
 loop-holds : tie.Need-loop-holds Inv-loop μ-loop
-loop-holds c = let S = c .before .before .before in let a = S .args in (omega arith, refl, subst (At (now (a .src)) 0) (sym (c .edges-at .ensures)) (start (S .pre .0)), omega arith, refl)
+loop-holds c = (omega arith, refl, refl, omega arith, refl)
 
-ports-at-requires : tie.Need-ports-at-requires Inv-loop μ-loop
-ports-at-requires c κs = let S = c .before .before .before .before .before in let l = c .before .loop in let h = here (S .pre .0) (l .i) (l .at) (omega arith) (l .inv .2) .is .inside in omega arith
+edge-at-requires : tie.Need-edge-at-requires Inv-loop μ-loop
+edge-at-requires c κs = let S = c .before .before .before .before .before in let l = c .before .loop in edge-held (S .pre .0) (l .i) (l .k) (omega arith) (l .inv .2) _ (c .before .before .body-row .ensures)
 
-add-count-list : tie.Need-add-count-list Inv-loop μ-loop
-add-count-list c =
-    let S = c .before .before .before .before .before .before in
-    let a = S .args in
-    let l = c .before .before .loop in
-    let p = c .ports-at in
-    let r = edge-read (S .pre .0) (l .i) (l .at) (omega arith) (l .inv .2) (p .result) (p .ensures .0) in
-    omega (arith, r .inside)
+-- the edge of this turn
+met : (c : tie.After-edge-at Inv-loop μ-loop) → EdgeRead (now (c .before .before .before .before .before .before .args .src)) (c .before .before .before .before .before .before .args .z) (c .before .before .loop .i) (c .before .before .loop .k) (c .edge-at .result)
+met c = let S = c .before .before .before .before .before .before in let l = c .before .before .loop in edge-read (S .pre .0) (l .i) (l .k) (omega arith) (l .inv .2) _ (c .before .before .before .body-row .ensures) (c .edge-at .result) (c .edge-at .ensures)
 
-count-list-requires : tie.Need-count-list-requires Inv-loop μ-loop
-count-list-requires c κs =
-    let S = c .before .before .before .before .before .before in
-    let a = S .args in
-    let l = c .before .before .loop in
-    let p = c .ports-at in
-    let r = edge-read (S .pre .0) (l .i) (l .at) (omega arith) (l .inv .2) (p .result) (p .ensures .0) in
-    (r .inside, r .below, omega arith)
+add-count-part : tie.Need-add-count-part Inv-loop μ-loop
+add-count-part c = omega (arith, holds-index (met (c .before) .ids .held))
+
+count-part-requires : tie.Need-count-part-requires Inv-loop μ-loop
+count-part-requires c κs = (met (c .before) .ids, c .before .before .before .before .before .before .before .pre .1)
+
+-- how many there are at most
+few : (c : tie.After-count-part Inv-loop μ-loop) → c .count-part .result ≤ c .before .before .edge-at .result .sources + c .before .before .edge-at .result .targets
+few c =
+    let a = c .before .before .before .before .before .before .before .before .args in
+    let e = c .before .before .edge-at .result in
+    let ids = idsAt (now (a .src)) (a .z) (e .first) (e .sources + e .targets) in
+    omega (arith, c .count-part .ensures, keep-few (isListed (a .z .nodes) (cells (now (a .room)))) ids, length-span (now (a .src)) (bodyOf (a .z)) (e .first) (e .sources + e .targets))
 
 add-count : tie.Need-add-count Inv-loop μ-loop
-add-count c = let l = c .before .before .before .loop in let q = few (c .before .before .before .before .before .before .before .pre .0) .1 in omega (arith, c .count-list .ensures .1, c .before .ports-at .ensures .1, l .inv .3)
-
-add-at : tie.Need-add-at Inv-loop μ-loop
-add-at c =
-    let S = c .before .before .before .before .before .before .before in
-    let a = S .args in
-    let l = c .before .before .before .loop in
-    let p = c .before .ports-at in
-    let r = edge-read (S .pre .0) (l .i) (l .at) (omega arith) (l .inv .2) (p .result) (p .ensures .0) in
-    omega (arith, r .inside)
-
-mul-at : tie.Need-mul-at Inv-loop μ-loop
-mul-at c =
-    let S = c .before .before .before .before .before .before .before in
-    let a = S .args in
-    let l = c .before .before .before .loop in
-    let p = c .before .ports-at in
-    let r = edge-read (S .pre .0) (l .i) (l .at) (omega arith) (l .inv .2) (p .result) (p .ensures .0) in
-    omega (arith, r .inside)
-
-add-at-2 : tie.Need-add-at-2 Inv-loop μ-loop
-add-at-2 c =
-    let S = c .before .before .before .before .before .before .before in
-    let a = S .args in
-    let l = c .before .before .before .loop in
-    let p = c .before .ports-at in
-    let r = edge-read (S .pre .0) (l .i) (l .at) (omega arith) (l .inv .2) (p .result) (p .ensures .0) in
-    omega (arith, r .inside)
+add-count c = let m = met (c .before .before) in omega (arith, few c, c .before .before .before .before .loop .inv .3, m .first, holds-index (m .ids .held))
 
 add-i : tie.Need-add-i Inv-loop μ-loop
 add-i c = omega arith
@@ -88,22 +65,19 @@ loop-less c = omega arith
 
 loop-again : tie.Need-loop-again Inv-loop μ-loop
 loop-again c =
-    let S = c .before .before .before .before .before .before .before in
-    let a = S .args in
-    let l = c .before .before .before .loop in
-    let p = c .before .ports-at in
-    let r = edge-read (S .pre .0) (l .i) (l .at) (omega arith) (l .inv .2) (p .result) (p .ensures .0) in
-    let n = c .count-list .ensures in
-    (omega arith, l .inv .1, r .next, omega (arith, l .inv .3, n .1, p .ensures .1), count-turn (S .pre .0) (marked (a .z .nodes) (cells (now (a .room)))) (l .i) (omega arith) (l .count) (c .count-list .result) (l .inv .4) (numbers 2 (p .result) (drop (l .at + 4) (now (a .src)))) (r .entries) (n .0))
+    let a = c .before .before .before .before .before .before .before .before .args in
+    let l = c .before .before .before .before .loop in
+    let m = met (c .before .before) in
+    let test = isListed (a .z .nodes) (cells (now (a .room))) in
+    let sum = ap (λ (xs : List ℕ). length (keep test xs)) (m .sofar) ∙ keep-more test (edgeEntries (take (l .i) (graphOf (now (a .src)) .edges))) _ in
+    (omega arith, l .inv .1, m .end, omega (arith, few c, l .inv .3, m .first, m .next), omega (arith, c .count-part .ensures, l .inv .4, sum))
 
 returns : tie.Need-returns Inv-loop μ-loop
 returns c =
     let S = c .before .before .before .before .before in
     let a = S .args in
     let l = c .before .loop in
-    let e : l .i ≡ a .z .edges = omega arith in
-    let q = few (S .pre .0) .1 in
-    (l .inv .4 ∙ ap (λ (k : ℕ). length (keep (marked (a .z .nodes) (cells (now (a .room)))) (edgeEntries (take k (graphOf (now (a .src)) .edges))))) e ∙ ap (λ (es : List Edge). length (keep (marked (a .z .nodes) (cells (now (a .room)))) (edgeEntries es))) (all-edges (S .pre .0)), omega (arith, l .inv .3))
+    l .inv .4 ∙ ap (λ (es : List Edge). length (keep (isListed (a .z .nodes) (cells (now (a .room)))) (edgeEntries es))) (all-edges (S .pre .0) (l .i) (omega (arith, l .inv .0, l .inv .1, c .loop-test .left)))
 
 pub count-edges-spec : {M : Type 1} → statement M
 count-edges-spec =
@@ -111,15 +85,12 @@ count-edges-spec =
     (tie.spec
     Inv-loop
     μ-loop
-    edges-at-requires
+    body-row-requires
     loop-holds
-    ports-at-requires
-    add-count-list
-    count-list-requires
+    edge-at-requires
+    add-count-part
+    count-part-requires
     add-count
-    add-at
-    mul-at
-    add-at-2
     add-i
     loop-less
     loop-again

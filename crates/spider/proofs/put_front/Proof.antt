@@ -1,253 +1,115 @@
 -- `spider::put_front` meets its contract.
 -- Assumes nothing.
-use mathlib.Core.List.{List, _++_}
-use mathlib.Core.Path.{_≡_, sym, ap, _∙_, subst}
-use Prim.Native.Nat.{ℕ, _+_, _*_, _≤_}
-use native.Mathlib.Omega.{arith}
+use mathlib.Core.List.{List}
+use mathlib.Core.Path.{_≡_, ap, _∙_}
+use Prim.Native.Nat.{ℕ, _+_, _≤_}
 use lib.ListN.{length}
-use lib.Seq.{sets}
 use denote.Ref.{now}
-use borrow.Author.Needs.{needs}
+use Rattle.form.proofs.Stored.{stored-rows}
 use Rattle.graph.specs.Lists.{keep}
-use Rattle.le.specs.Le.{Below, row}
-use Rattle.links.specs.Links.{cells, marked}
-use Rattle.spider.specs.Rewriting.{labelled}
-use Rattle.form.specs.Stored.{graphOf}
-use Rattle.le.proofs.Numbers.{below-append}
-use Rattle.spider.proofs.Parts.{fresh-two, front-done}
-use Rattle.form.proofs.Walk.{globals-below, long, limits, globals-read}
+use Rattle.le.specs.Rows.{Holds}
+use Rattle.le.proofs.Rows.{holds-less, holds-same}
+use Rattle.links.specs.Links.{cells, isListed}
+use Rattle.spider.proofs.Parts.{planned, lists-read, edges-end, lists-end, front-done}
+use borrow.Author.Needs.{needs}
+use native.Mathlib.Omega.{arith}
 use Rattle.spider.proofs.put_front.Statement.{statement}
 use Rattle.spider.proofs.put_front.Tie as tie
 
-add-put-header : tie.Need-add-put-header
-add-put-header c = search needs
-
-add-put-header-2 : tie.Need-add-put-header-2
-add-put-header-2 c = search needs
-
 put-header-requires : tie.Need-put-header-requires
-put-header-requires c κs =
-    let S = c .before .before .before .before .before .before in
-    let a = S .args in
-    let k = S .pre .0 in
-    let w = k .whole in
-    let q = limits w in
-    let lb = long w in
-    let two = fresh-two w (cells (now (a .room))) (a .fresh) (a .spiders) k in
-    (omega (arith, S .pre .2), omega (arith, k .nodes), omega (arith, k .edges), omega arith, omega arith, omega arith)
+put-header-requires c κs = search needs
 
-mul-labels : tie.Need-mul-labels
-mul-labels c = search needs
+label-row-requires : tie.Need-label-row-requires
+label-row-requires c κs = stored-rows (c .before .before .before .before .before .before .before .pre .0 .stored) .low
 
-copy-requires : tie.Need-copy-requires
-copy-requires c κs =
-    let S = c .before .before .before .before .before .before .before .before .before .before .before in
-    let a = S .args in
-    let k = S .pre .0 in
-    let w = k .whole in
-    let q = limits w in
-    let lb = long w in
-    let two = fresh-two w (cells (now (a .room))) (a .fresh) (a .spiders) k in
-    let h₁ = c .before .before .before .before .put-header .kept .0 in
-    (omega (arith, S .pre .2), omega arith)
+label-row-requires-2 : tie.Need-label-row-requires-2
+label-row-requires-2 c κs = search needs
 
-add-fresh-labels-of-edges : tie.Need-add-fresh-labels-of-edges
-add-fresh-labels-of-edges c = search needs
+-- room for n labels, and the labels that were read
+held : (c : tie.After-label-row2) (n : ℕ) → n ≤ c .before .before .before .before .before .before .before .before .before .args .y .nodes + c .before .before .before .before .before .before .before .before .before .args .y .edges → (out : List ℕ) → length out ≡ length (now (c .before .before .before .before .before .before .before .before .before .args .out)) → Holds out (c .label-row2 .result) n
+held c n l out e = holds-same {b = now (c .before .before .before .before .before .before .before .before .before .args .out)} (rw (c .label-row2 .ensures) (holds-less (c .before .before .before .before .before .before .before .before .before .pre .1 .labels) n l)) out e
 
-fresh-labels-of-edges-requires : tie.Need-fresh-labels-of-edges-requires
-fresh-labels-of-edges-requires c κs =
-    let S = c .before .before .before .before .before .before .before .before .before .before .before .before .before .before .before in
-    let a = S .args in
-    let k = S .pre .0 in
-    let w = k .whole in
-    let q = limits w in
-    let lb = long w in
-    let two = fresh-two w (cells (now (a .room))) (a .fresh) (a .spiders) k in
-    let h₁ = c .before .before .before .before .before .before .before .before .put-header .kept .0 in
-    let h₂ = c .before .before .before .copy .kept .0 in
-    (w, S .pre .1, omega (arith, S .pre .2))
+read : (c : tie.After-label-row2) (n : ℕ) → n ≤ c .before .before .before .before .before .before .before .before .before .args .z .nodes + c .before .before .before .before .before .before .before .before .before .args .z .edges → Holds (now (c .before .before .before .before .before .before .before .before .before .args .src)) (c .before .label-row .result) n
+read c n l = rw (c .before .label-row .ensures) (holds-less (stored-rows (c .before .before .before .before .before .before .before .before .before .pre .0 .stored) .labels-held) n l)
 
-lists-at-requires : tie.Need-lists-at-requires
-lists-at-requires c κs = search needs
+copy-numbers-requires : tie.Need-copy-numbers-requires
+copy-numbers-requires c κs = let q = planned (c .before .before .before .before .before .before .before .before .before .before .pre .0) in (held (c .before) _ (omega (arith, q .nodes)) _ (c .before .before .before .before .before .put-header .kept .0), read (c .before) _ (omega arith))
 
-add-fresh-labels : tie.Need-add-fresh-labels
-add-fresh-labels c =
-    let S = c .before .before .before .before .before .before .before .before .before .before .before .before .before .before .before .before .before .before .before .before in
-    let a = S .args in
-    let k = S .pre .0 in
-    let w = k .whole in
-    let q = limits w in
-    let lb = long w in
-    let two = fresh-two w (cells (now (a .room))) (a .fresh) (a .spiders) k in
-    let h₁ = c .before .before .before .before .before .before .before .before .before .before .before .before .before .put-header .kept .0 in
-    let h₂ = c .before .before .before .before .before .before .before .before .copy .kept .0 in
-    let f₃ = c .before .before .before .before .fresh-labels-of-edges in
-    let h₃ = f₃ .kept .1 .1 .1 .0 in
-    let t₃ = f₃ .ensures .0 in
-    let gl = globals-read w (c .before .lists-at .result) (c .before .lists-at .ensures) in
-    omega arith
+-- the buffer keeps its length
+long : (c : tie.After-copy-numbers) → length (c .copy-numbers .last .0) ≡ length (now (c .before .before .before .before .before .before .before .before .before .before .before .args .out))
+long c = c .copy-numbers .kept .0 ∙ c .before .before .before .before .before .before .put-header .kept .0
 
-fresh-labels-requires : tie.Need-fresh-labels-requires
-fresh-labels-requires c κs =
+long-edges : (c : tie.After-label-edges) → length (c .label-edges .last .1 .1 .1 .0) ≡ length (now (c .before .before .before .before .before .before .before .before .before .before .before .before .before .before .before .args .out))
+long-edges c = c .label-edges .kept .1 .1 .1 .0 ∙ long (c .before .before .before .before)
+
+long-lists : (c : tie.After-label-part) → length (c .label-part .last .1 .1 .1 .1 .1 .0) ≡ length (now (c .before .before .before .before .before .before .before .before .before .before .before .before .before .before .before .before .before .before .before .before .before .before .args .out))
+long-lists c = c .label-part .kept .1 .1 .1 .1 .1 .0 ∙ long-edges (c .before .before .before .before .before .before .before)
+
+label-edges-requires : tie.Need-label-edges-requires
+label-edges-requires c κs =
+    let S = c .before .before .before .before .before .before .before .before .before .before .before .before .before .before in
+    let p = S .pre .0 in
+    (p .stored, p .numbered .heads, held (c .before .before .before .before .before) _ (omega (arith, planned p .nodes)) _ (long (c .before .before .before)))
+
+mul-label-part : tie.Need-mul-label-part
+mul-label-part c = omega (arith, stored-rows (c .before .before .before .before .before .before .before .before .before .before .before .before .before .before .before .before .before .before .pre .0 .stored) .low .edges)
+
+add-label-part : tie.Need-add-label-part
+add-label-part c = let l = stored-rows (c .before .before .before .before .before .before .before .before .before .before .before .before .before .before .before .before .before .before .before .pre .0 .stored) .low in omega (arith, l .edges, l .ports)
+
+add-label-part-2 : tie.Need-add-label-part-2
+add-label-part-2 c = let l = stored-rows (c .before .before .before .before .before .before .before .before .before .before .before .before .before .before .before .before .before .before .before .before .pre .0 .stored) .low in omega (arith, l .sources, l .targets)
+
+label-part-requires : tie.Need-label-part-requires
+label-part-requires c κs =
     let S = c .before .before .before .before .before .before .before .before .before .before .before .before .before .before .before .before .before .before .before .before .before in
     let a = S .args in
-    let k = S .pre .0 in
-    let w = k .whole in
-    let q = limits w in
-    let lb = long w in
-    let two = fresh-two w (cells (now (a .room))) (a .fresh) (a .spiders) k in
-    let h₁ = c .before .before .before .before .before .before .before .before .before .before .before .before .before .before .put-header .kept .0 in
-    let h₂ = c .before .before .before .before .before .before .before .before .before .copy .kept .0 in
-    let f₃ = c .before .before .before .before .before .fresh-labels-of-edges in
-    let h₃ = f₃ .kept .1 .1 .1 .0 in
-    let t₃ = f₃ .ensures .0 in
-    let gl = globals-read w (c .before .before .lists-at .result) (c .before .before .lists-at .ensures) in
-    let below = subst (Below (a .z .nodes)) (sym gl) (below-append (a .z .nodes) (graphOf (now (a .src)) .sources) (graphOf (now (a .src)) .targets) (globals-below w .0) (globals-below w .1)) in
-    let fits : f₃ .result + length (keep (marked (a .z .nodes) (cells (now (a .room)))) (graphOf (now (a .src)) .sources ++ graphOf (now (a .src)) .targets)) * 4 ≤ length (f₃ .last .1 .1 .1 .0) = omega (arith, S .pre .2) in
-    (omega (arith, c .before .before .lists-at .ensures), below, S .pre .1, omega arith, subst (λ (xs : List ℕ). f₃ .result + length (keep (marked (a .z .nodes) (cells (now (a .room)))) xs) * 4 ≤ length (f₃ .last .1 .1 .1 .0)) (sym gl) fits)
+    let p = S .pre .0 in
+    let m = isListed (a .z .nodes) (cells (now (a .room))) in
+    let l = lists-read (p .stored) in
+    let same = ap (λ (xs : List ℕ). length (keep m xs)) (l .both-ids) in
+    (l .both, p .numbered .heads, held (c .before .before .before .before .before .before .before .before .before .before .before .before) _ (omega (arith, planned p .nodes, edges-end p (c .before .before .before .before .before .before .label-edges .ensures))) _ (long-edges (c .before .before .before .before .before .before)))
 
-add-copy : tie.Need-add-copy
-add-copy c = search needs
+-- where the labels of the fresh nodes end
+end : (c : tie.After-label-part) → c .label-part .result ≡ c .before .before .before .before .before .before .before .before .before .before .before .before .before .before .before .before .before .before .before .before .before .before .args .y .nodes
+end c = lists-end (c .before .before .before .before .before .before .before .before .before .before .before .before .before .before .before .before .before .before .before .before .before .before .pre .0) (c .before .before .before .before .before .before .before .label-edges .ensures) (c .label-part .ensures)
 
-mul-copy : tie.Need-mul-copy
-mul-copy c = search needs
-
-copy-requires-2 : tie.Need-copy-requires-2
-copy-requires-2 c κs =
-    let S = c .before .before .before .before .before .before .before .before .before .before .before .before .before .before .before .before .before .before .before .before .before .before .before .before .before .before in
-    let a = S .args in
-    let k = S .pre .0 in
-    let w = k .whole in
-    let q = limits w in
-    let lb = long w in
-    let two = fresh-two w (cells (now (a .room))) (a .fresh) (a .spiders) k in
-    let h₁ = c .before .before .before .before .before .before .before .before .before .before .before .before .before .before .before .before .before .before .before .put-header .kept .0 in
-    let h₂ = c .before .before .before .before .before .before .before .before .before .before .before .before .before .before .copy .kept .0 in
-    let f₃ = c .before .before .before .before .before .before .before .before .before .before .fresh-labels-of-edges in
-    let h₃ = f₃ .kept .1 .1 .1 .0 in
-    let t₃ = f₃ .ensures .0 in
-    let gl = globals-read w (c .before .before .before .before .before .before .before .lists-at .result) (c .before .before .before .before .before .before .before .lists-at .ensures) in
-    let f₄ = c .before .before .before .before .fresh-labels in
-    let h₄ = f₄ .kept .1 .1 .1 .1 .1 .0 in
-    let t₄ : f₄ .result ≡ f₃ .result + length (keep (marked (a .z .nodes) (cells (now (a .room)))) (graphOf (now (a .src)) .sources ++ graphOf (now (a .src)) .targets)) * 4 =
-    f₄ .ensures .0 ∙ ap (λ (xs : List ℕ). f₃ .result + length (keep (marked (a .z .nodes) (cells (now (a .room)))) xs) * 4) gl in
-    (omega (arith, S .pre .2), omega arith)
-
-mul-put-spider-labels : tie.Need-mul-put-spider-labels
-mul-put-spider-labels c = search needs
+copy-numbers-requires-2 : tie.Need-copy-numbers-requires-2
+copy-numbers-requires-2 c κs = let q = planned (c .before .before .before .before .before .before .before .before .before .before .before .before .before .before .before .before .before .before .before .before .before .before .before .before .before .pre .0) in (held (c .before .before .before .before .before .before .before .before .before .before .before .before .before .before .before .before) _ (omega (arith, end (c .before .before .before), q .edges)) _ (long-lists (c .before .before .before)), read (c .before .before .before .before .before .before .before .before .before .before .before .before .before .before .before .before) _ (omega arith))
 
 add-put-spider-labels : tie.Need-add-put-spider-labels
-add-put-spider-labels c =
-    let S = c .before .before .before .before .before .before .before .before .before .before .before .before .before .before .before .before .before .before .before .before .before .before .before .before .before .before .before .before .before .before .before in
-    let a = S .args in
-    let k = S .pre .0 in
-    let w = k .whole in
-    let q = limits w in
-    let lb = long w in
-    let two = fresh-two w (cells (now (a .room))) (a .fresh) (a .spiders) k in
-    let h₁ = c .before .before .before .before .before .before .before .before .before .before .before .before .before .before .before .before .before .before .before .before .before .before .before .before .put-header .kept .0 in
-    let h₂ = c .before .before .before .before .before .before .before .before .before .before .before .before .before .before .before .before .before .before .before .copy .kept .0 in
-    let f₃ = c .before .before .before .before .before .before .before .before .before .before .before .before .before .before .before .fresh-labels-of-edges in
-    let h₃ = f₃ .kept .1 .1 .1 .0 in
-    let t₃ = f₃ .ensures .0 in
-    let gl = globals-read w (c .before .before .before .before .before .before .before .before .before .before .before .before .lists-at .result) (c .before .before .before .before .before .before .before .before .before .before .before .before .lists-at .ensures) in
-    let f₄ = c .before .before .before .before .before .before .before .before .before .fresh-labels in
-    let h₄ = f₄ .kept .1 .1 .1 .1 .1 .0 in
-    let t₄ : f₄ .result ≡ f₃ .result + length (keep (marked (a .z .nodes) (cells (now (a .room)))) (graphOf (now (a .src)) .sources ++ graphOf (now (a .src)) .targets)) * 4 =
-    f₄ .ensures .0 ∙ ap (λ (xs : List ℕ). f₃ .result + length (keep (marked (a .z .nodes) (cells (now (a .room)))) xs) * 4) gl in
-    let h₅ = c .before .before .before .before .copy2 .kept .0 in
-    omega (arith, S .pre .2)
+add-put-spider-labels c = let S = c .before .before .before .before .before .before .before .before .before .before .before .before .before .before .before .before .before .before .before .before .before .before .before .before .before .before .before .before .before .before in let l = S .pre .1 .low in omega (arith, end (c .before .before .before .before .before .before .before .before), planned (S .pre .0) .edges, l .nodes, l .edges)
+
+sub-put-spider-labels : tie.Need-sub-put-spider-labels
+sub-put-spider-labels c = omega (arith, planned (c .before .before .before .before .before .before .before .before .before .before .before .before .before .before .before .before .before .before .before .before .before .before .before .before .before .before .before .before .before .before .before .before .pre .0) .edges)
 
 put-spider-labels-requires : tie.Need-put-spider-labels-requires
-put-spider-labels-requires c κs =
-    let S = c .before .before .before .before .before .before .before .before .before .before .before .before .before .before .before .before .before .before .before .before .before .before .before .before .before .before .before .before .before .before .before in
-    let a = S .args in
-    let k = S .pre .0 in
-    let w = k .whole in
-    let q = limits w in
-    let lb = long w in
-    let two = fresh-two w (cells (now (a .room))) (a .fresh) (a .spiders) k in
-    let h₁ = c .before .before .before .before .before .before .before .before .before .before .before .before .before .before .before .before .before .before .before .before .before .before .before .before .put-header .kept .0 in
-    let h₂ = c .before .before .before .before .before .before .before .before .before .before .before .before .before .before .before .before .before .before .before .copy .kept .0 in
-    let f₃ = c .before .before .before .before .before .before .before .before .before .before .before .before .before .before .before .fresh-labels-of-edges in
-    let h₃ = f₃ .kept .1 .1 .1 .0 in
-    let t₃ = f₃ .ensures .0 in
-    let gl = globals-read w (c .before .before .before .before .before .before .before .before .before .before .before .before .lists-at .result) (c .before .before .before .before .before .before .before .before .before .before .before .before .lists-at .ensures) in
-    let f₄ = c .before .before .before .before .before .before .before .before .before .fresh-labels in
-    let h₄ = f₄ .kept .1 .1 .1 .1 .1 .0 in
-    let t₄ : f₄ .result ≡ f₃ .result + length (keep (marked (a .z .nodes) (cells (now (a .room)))) (graphOf (now (a .src)) .sources ++ graphOf (now (a .src)) .targets)) * 4 =
-    f₄ .ensures .0 ∙ ap (λ (xs : List ℕ). f₃ .result + length (keep (marked (a .z .nodes) (cells (now (a .room)))) xs) * 4) gl in
-    let h₅ = c .before .before .before .before .copy2 .kept .0 in
-    omega (arith, S .pre .2)
+put-spider-labels-requires c κs = held (c .before .before .before .before .before .before .before .before .before .before .before .before .before .before .before .before .before .before .before .before .before .before .before) _ (omega (arith, end (c .before .before .before .before .before .before .before .before .before .before), planned (c .before .before .before .before .before .before .before .before .before .before .before .before .before .before .before .before .before .before .before .before .before .before .before .before .before .before .before .before .before .before .before .before .pre .0) .edges)) _ (c .before .before .before .before .before .before .copy-numbers2 .kept .0 ∙ long-lists (c .before .before .before .before .before .before .before .before .before .before))
 
 same-length : tie.Need-same-length
-same-length c =
-    let S = c .before .before .before .before .before .before .before .before .before .before .before .before .before .before .before .before .before .before .before .before .before .before .before .before .before .before .before .before .before .before .before .before .before .before in
-    let a = S .args in
-    let k = S .pre .0 in
-    let w = k .whole in
-    let q = limits w in
-    let lb = long w in
-    let two = fresh-two w (cells (now (a .room))) (a .fresh) (a .spiders) k in
-    let h₁ = c .before .before .before .before .before .before .before .before .before .before .before .before .before .before .before .before .before .before .before .before .before .before .before .before .before .before .before .put-header .kept .0 in
-    let h₂ = c .before .before .before .before .before .before .before .before .before .before .before .before .before .before .before .before .before .before .before .before .before .before .copy .kept .0 in
-    let f₃ = c .before .before .before .before .before .before .before .before .before .before .before .before .before .before .before .before .before .before .fresh-labels-of-edges in
-    let h₃ = f₃ .kept .1 .1 .1 .0 in
-    let t₃ = f₃ .ensures .0 in
-    let gl = globals-read w (c .before .before .before .before .before .before .before .before .before .before .before .before .before .before .before .lists-at .result) (c .before .before .before .before .before .before .before .before .before .before .before .before .before .before .before .lists-at .ensures) in
-    let f₄ = c .before .before .before .before .before .before .before .before .before .before .before .before .fresh-labels in
-    let h₄ = f₄ .kept .1 .1 .1 .1 .1 .0 in
-    let t₄ : f₄ .result ≡ f₃ .result + length (keep (marked (a .z .nodes) (cells (now (a .room)))) (graphOf (now (a .src)) .sources ++ graphOf (now (a .src)) .targets)) * 4 =
-    f₄ .ensures .0 ∙ ap (λ (xs : List ℕ). f₃ .result + length (keep (marked (a .z .nodes) (cells (now (a .room)))) xs) * 4) gl in
-    let h₅ = c .before .before .before .before .before .before .before .copy2 .kept .0 in
-    c .before .before .put-spider-labels .kept .0 ∙ h₅ ∙ h₄ ∙ h₃ ∙ h₂ ∙ h₁
+same-length c = c .before .before .put-spider-labels .kept .0 ∙ c .before .before .before .before .before .before .before .before .before .copy-numbers2 .kept .0 ∙ long-lists (c .before .before .before .before .before .before .before .before .before .before .before .before .before)
 
 returns : tie.Need-returns
 returns c =
-    let S = c .before .before .before .before .before .before .before .before .before .before .before .before .before .before .before .before .before .before .before .before .before .before .before .before .before .before .before .before .before .before .before .before .before .before in
-    let a = S .args in
-    let k = S .pre .0 in
-    let w = k .whole in
-    let q = limits w in
-    let lb = long w in
-    let two = fresh-two w (cells (now (a .room))) (a .fresh) (a .spiders) k in
-    let h₁ = c .before .before .before .before .before .before .before .before .before .before .before .before .before .before .before .before .before .before .before .before .before .before .before .before .before .before .before .put-header .kept .0 in
-    let h₂ = c .before .before .before .before .before .before .before .before .before .before .before .before .before .before .before .before .before .before .before .before .before .before .copy .kept .0 in
-    let f₃ = c .before .before .before .before .before .before .before .before .before .before .before .before .before .before .before .before .before .before .fresh-labels-of-edges in
-    let h₃ = f₃ .kept .1 .1 .1 .0 in
-    let t₃ = f₃ .ensures .0 in
-    let gl = globals-read w (c .before .before .before .before .before .before .before .before .before .before .before .before .before .before .before .lists-at .result) (c .before .before .before .before .before .before .before .before .before .before .before .before .before .before .before .lists-at .ensures) in
-    let f₄ = c .before .before .before .before .before .before .before .before .before .before .before .before .fresh-labels in
-    let h₄ = f₄ .kept .1 .1 .1 .1 .1 .0 in
-    let t₄ : f₄ .result ≡ f₃ .result + length (keep (marked (a .z .nodes) (cells (now (a .room)))) (graphOf (now (a .src)) .sources ++ graphOf (now (a .src)) .targets)) * 4 =
-    f₄ .ensures .0 ∙ ap (λ (xs : List ℕ). f₃ .result + length (keep (marked (a .z .nodes) (cells (now (a .room)))) xs) * 4) gl in
-    let h₅ = c .before .before .before .before .before .before .before .copy2 .kept .0 in
-    let f₁ = c .before .before .before .before .before .before .before .before .before .before .before .before .before .before .before .before .before .before .before .before .before .before .before .before .before .before .before .put-header in
-    let f₂ = c .before .before .before .before .before .before .before .before .before .before .before .before .before .before .before .before .before .before .before .before .before .before .copy in
-    let f₅ = c .before .before .before .before .before .before .before .copy2 in
-    let f₆ = c .before .before .put-spider-labels in
-    front-done w (cells (now (a .room))) (a .fresh) (a .spiders) k (now (a .out)) (f₁ .last .0) (f₂ .last .0) (f₃ .last .1 .1 .1 .0) (f₄ .last .1 .1 .1 .1 .1 .0) (f₅ .last .0) (f₆ .last .0) (f₃ .result) (f₄ .result)
-    (f₁ .ensures) (f₂ .ensures) (f₃ .ensures) (t₄, f₄ .ensures .1 ∙ ap (λ (xs : List ℕ). sets (f₃ .last .1 .1 .1 .0) (f₃ .result) (row 4 (labelled (now (a .src)) (marked (a .z .nodes) (cells (now (a .room)))) xs))) gl) (f₅ .ensures) (f₆ .ensures)
+    front-done (c .before .before .before .before .before .before .before .before .before .before .before .before .before .before .before .before .before .before .before .before .before .before .before .before .before .before .before .before .before .before .before .before .before .before .before .pre .0) (c .before .before .before .before .before .before .before .before .before .before .before .before .before .before .before .before .before .before .before .before .label-edges .ensures) (c .before .before .before .before .before .before .before .before .before .before .before .before .before .label-part .ensures) (now (c .before .before .before .before .before .before .before .before .before .before .before .before .before .before .before .before .before .before .before .before .before .before .before .before .before .before .before .before .before .before .before .before .before .before .before .args .out)) (c .before .before .before .before .before .before .before .before .before .before .before .before .before .before .before .before .before .before .before .before .before .before .before .before .before .before .before .label-row .ensures) (c .before .before .before .before .before .before .before .before .before .before .before .before .before .before .before .before .before .before .before .before .before .before .before .before .before .before .label-row2 .ensures) (c .before .before .before .before .before .before .before .before .before .before .before .before .before .before .before .before .before .before .before .before .before .before .before .before .before .before .before .before .before .before .put-header .ensures) (c .before .before .before .before .before .before .before .before .before .before .before .before .before .before .before .before .before .before .before .before .before .before .before .before .copy-numbers .ensures)
+    (c .before .before .before .before .before .before .before .before .before .copy-numbers2 .ensures) (c .before .before .put-spider-labels .ensures)
 
 pub put-front-spec : {M : Type 1} → statement M
 put-front-spec =
     tie.close
     (tie.spec
-    add-put-header
-    add-put-header-2
     put-header-requires
-    mul-labels
-    copy-requires
-    add-fresh-labels-of-edges
-    fresh-labels-of-edges-requires
-    lists-at-requires
-    add-fresh-labels
-    fresh-labels-requires
-    add-copy
-    mul-copy
-    copy-requires-2
-    mul-put-spider-labels
+    label-row-requires
+    label-row-requires-2
+    copy-numbers-requires
+    label-edges-requires
+    mul-label-part
+    add-label-part
+    add-label-part-2
+    label-part-requires
+    copy-numbers-requires-2
     add-put-spider-labels
+    sub-put-spider-labels
     put-spider-labels-requires
     same-length
     returns)

@@ -1,38 +1,38 @@
 -- `spider::put_spider_labels` meets its contract.
 -- Assumes nothing.
-use mathlib.Core.Path.{_≡_, refl, ap, _∙_}
-use Prim.Native.Nat.{ℕ, _-_, _≤_}
+use mathlib.Core.List.{[], _∷_}
+use mathlib.Core.Path.{_≡_, sym, ap, _∙_}
+use Prim.Native.Nat.{ℕ, _+_, _-_, _≤_}
 use native.Mathlib.Nat.{le-antisymm}
-use native.Mathlib.Omega.{arith}
-use lib.ListN.{length, replicate}
-use lib.Seq.{sets}
+use lib.ListN.{length, replicate, length-replicate, replicate-append-replicate}
 use denote.Ref.{now}
 use Rattle.graph.specs.Graph.{spider}
-use Rattle.le.specs.Le.{row}
-use Rattle.spider.proofs.Entries.{labels-more}
+use Rattle.le.specs.Rows.{puts}
+use Rattle.le.proofs.Rows.{holds-less, holds-same, holds-index, length-puts, puts-none, puts-append}
+use native.Mathlib.Omega.{arith}
 use Rattle.spider.proofs.put_spider_labels.Statement.{statement}
 use Rattle.spider.proofs.put_spider_labels.Tie as tie
 
 abbrev Inv-loop : tie.InvT-loop
-Inv-loop out₀ at n k₀ out k = (k ≤ n) × (length out ≡ length out₀) × (out ≡ sets out₀ at (row 4 (replicate k spider)))
+Inv-loop out₀ r k n i₀ out i = (i ≤ n) × (out ≡ puts out₀ r k (replicate i spider))
 
 abbrev μ-loop : tie.MeasureT-loop
-μ-loop out₀ at n k₀ out k = n - k
+μ-loop out₀ r k n i₀ out i = n - i
 
 loop-holds : tie.Need-loop-holds Inv-loop μ-loop
-loop-holds c = (omega arith, refl, refl)
+loop-holds c = (omega arith, sym (puts-none _ (c .before .args .r) (c .before .args .k)))
 
-mul-put4 : tie.Need-mul-put4 Inv-loop μ-loop
-mul-put4 c = omega arith
+add-put-number : tie.Need-add-put-number Inv-loop μ-loop
+add-put-number c = omega (arith, holds-index (c .before .before .before .before .pre))
 
-add-put4 : tie.Need-add-put4 Inv-loop μ-loop
-add-put4 c = omega arith
+put-number-requires : tie.Need-put-number-requires Inv-loop μ-loop
+put-number-requires c κs =
+    let a = c .before .before .before .before .args in
+    let l = c .before .before .loop in
+    (holds-same (holds-less (c .before .before .before .before .pre) _ (omega arith)) (l .out) (ap length (l .inv .1) ∙ length-puts (now (a .out)) (a .r) (a .k) (replicate (l .i) spider)), omega arith)
 
-put4-requires : tie.Need-put4-requires Inv-loop μ-loop
-put4-requires c κs = omega arith
-
-add-k : tie.Need-add-k Inv-loop μ-loop
-add-k c = omega arith
+add-i : tie.Need-add-i Inv-loop μ-loop
+add-i c = omega arith
 
 loop-less : tie.Need-loop-less Inv-loop μ-loop
 loop-less c = omega arith
@@ -41,18 +41,20 @@ loop-again : tie.Need-loop-again Inv-loop μ-loop
 loop-again c =
     let a = c .before .before .before .before .before .before .before .args in
     let l = c .before .before .before .before .before .loop in
-    let f = c .before .before .put4 in
-    (omega arith, f .kept .0 ∙ l .inv .1, labels-more (now (a .out)) (l .out) (f .last .0) (a .at) (l .k) spider (l .inv .2) (f .ensures))
+    let place : a .k + l .i ≡ a .k + length (replicate (l .i) spider) = ap (λ (n : ℕ). a .k + n) (sym (length-replicate {A = ℕ} (l .i) spider)) in (
+      omega arith,
+      c .before .before .put-number .ensures ∙ (λ x. puts (l .inv .1 x) (a .r) (place x) (spider ∷ [])) ∙ puts-append (now (a .out)) (a .r) (a .k) (replicate (l .i) spider) (spider ∷ [])
+          ∙ ap (puts (now (a .out)) (a .r) (a .k)) (replicate-append-replicate (l .i) 1 spider),
+    )
 
 same-length : tie.Need-same-length Inv-loop μ-loop
-same-length c = c .before .loop .inv .1
+same-length c = let a = c .before .before .before .args in let l = c .before .loop in ap length (l .inv .1) ∙ length-puts (now (a .out)) (a .r) (a .k) (replicate (l .i) spider)
 
 returns : tie.Need-returns Inv-loop μ-loop
 returns c =
     let a = c .before .before .before .args in
     let l = c .before .loop in
-    let e = le-antisymm (l .inv .0) (c .loop-test .left) in
-    l .inv .2 ∙ ap (λ (k : ℕ). sets (now (a .out)) (a .at) (row 4 (replicate k spider))) e
+    l .inv .1 ∙ ap (λ (n : ℕ). puts (now (a .out)) (a .r) (a .k) (replicate n spider)) (le-antisymm (l .inv .0) (c .loop-test .left))
 
 pub put-spider-labels-spec : {M : Type 1} → statement M
 put-spider-labels-spec =
@@ -61,10 +63,9 @@ put-spider-labels-spec =
     Inv-loop
     μ-loop
     loop-holds
-    mul-put4
-    add-put4
-    put4-requires
-    add-k
+    add-put-number
+    put-number-requires
+    add-i
     loop-less
     loop-again
     same-length

@@ -1,43 +1,74 @@
 -- `spider::spiderize_nodes` meets its contract.
 -- Assumes nothing.
-use mathlib.Core.List.{[]}
+use mathlib.Core.List.{List, []}
 use mathlib.Core.Path.{_≡_, sym, ap, _∙_}
-use native.Mathlib.Omega.{arith}
+use Prim.Native.Nat.{ℕ, _≤_}
 use lib.ListN.{length}
 use denote.Ref.{now}
-use borrow.Author.Needs.{needs}
-use Rattle.form.specs.Form.{readRefusal, listRefusal, refusal, written}
-use Rattle.form.specs.declared.Written.the-variants.{Refused}
-use Rattle.graph.specs.Answer.{Answer, laid}
-use Rattle.graph.specs.Calls.{Made, onGraph, inWorkRoom, spiderizeStep}
-use Rattle.graph.specs.Graph.{form1}
-use Rattle.le.specs.Le.{numbers}
-use Rattle.links.specs.Links.{cells}
-use Rattle.spider.specs.Rewriting.{answeredWith}
-use Rattle.form.proofs.Calls.{gives-refused}
-use Rattle.form.proofs.Whole.{Stored, stored-graph, stored-limits, unread}
-use Rattle.graph.proofs.Verdicts.{call-unread, no-room, in-room}
+use Rattle.form.specs.Form.{refusalIn, refusalRead, meantBy}
+use Rattle.form.specs.Stored.{graphOf, formatOf, Stored}
+use Rattle.form.specs.declared.Sizes.{Sizes}
+use Rattle.form.proofs.Answers.{gives-refused, list-refused, test-refused}
+use Rattle.form.proofs.Stored.{unread, stored, stored-rows}
+use Rattle.graph.specs.Answer.{Answer, Result, answered}
+use Rattle.graph.specs.Calls.{Next, idList, unpaired, inWorkRoom, onGraph, roomSpiderize, spiderizeStep}
+use Rattle.graph.specs.Graph.{Graph, Format}
+use Rattle.graph.specs.Lists.{among}
 use Rattle.le.proofs.Numbers.{below-each}
-use Rattle.spider.proofs.Calls.{list-refused, Ids, list-read, listed-ids, nodes-call, call-7, call-8}
-use Rattle.form.proofs.Walk.{long, whole-of}
+use Rattle.links.specs.Links.{cells, isListed, Linked}
+use Rattle.write.proofs.Calls.{gives-by, work-short, work-enough, graph-unread, graph-stopped}
+use Rattle.spider.proofs.Parts.{heads-held}
+use Rattle.le.specs.Rows.{rowAt, span}
+use Rattle.spider.proofs.Calls.{passes, room-enough, Given, given, none-paired, step-7, step-8, step-0, listed-ids}
+use borrow.Author.Needs.{needs}
+use native.Mathlib.Omega.{arith}
 use Rattle.spider.proofs.spiderize_nodes.Statement.{statement}
 use Rattle.spider.proofs.spiderize_nodes.Tie as tie
 
--- the form that was read
-form : (c : tie.After-known-told) → Stored (now (c .before .before .before .before .before .before .before .before .before .args .src)) (c .before .graph .given .0 .0)
-form c =
-    let b = now (c .before .before .before .before .before .before .before .before .before .args .src) in
-    stored-graph b (below-each 256 b (λ i l. omega (arith, c .before .before .before .before .before .before .before .before .shared-slice-known .given i)))
-    (c .before .before .before .read .result) (c .before .before .before .read .ensures) (c .before .graph .given .0 .0) (c .before .graph .given .1)
+-- the call's step, and the call in work room enough
+abbrev next : tie.Start → Format → Graph → Answer Next
+next S f = spiderizeStep f (now (S .args .ids))
 
--- the list that was read
-ids : (c : tie.After-known-told2) → Ids (c .before .before .before .before .before .graph .given .0 .0 .nodes) (now (c .before .before .before .before .before .before .before .before .before .before .before .before .before .args .ids)) (c .before .before .before .id-list .result) (c .before .before .before .id-list .ensures) (c .before .list .given .0 .0)
-ids c = list-read (c .before .before .before .before .before .graph .given .0 .0 .nodes) (now (c .before .before .before .before .before .before .before .before .before .before .before .before .before .args .ids)) (c .before .before .before .id-list .result) (c .before .before .before .id-list .ensures) (c .before .list .given .0 .0) (c .before .list .given .1)
+abbrev call : tie.Start → Answer Result
+call S = onGraph (now (S .args .src)) (length (now (S .args .out))) (next S)
+
+enough : (c : tie.After-enum-told) → inWorkRoom roomSpiderize (length (now (c .before .before .before .before .before .before .before .args .room))) (call (c .before .before .before .before .before .before .before)) ≡ call (c .before .before .before .before .before .before .before)
+enough c = work-enough roomSpiderize _ (call (c .before .before .before .before .before .before .before)) (c .before .before .work-room .result) (c .before .before .work-room .ensures) _ (c .enum-told .given .1)
+
+-- the form that was read, and room for its table
+form : (c : tie.After-known-told) → Stored (now (c .before .before .before .before .before .before .before .before .before .before .before .args .src)) (c .before .graph .given .0 .0)
+form c =
+    let b = now (c .before .before .before .before .before .before .before .before .before .before .before .args .src) in
+    stored b (c .before .before .before .read .result) (c .before .before .before .read .ensures) (below-each 256 b (λ i l. omega (arith, c .before .before .before .before .before .before .before .before .before .before .shared-slice-known .given i))) (c .before .graph .given .0 .0) (c .before .graph .given .1)
+
+roomy : (c : tie.After-known-told) → roomSpiderize ≤ length (now (c .before .before .before .before .before .before .before .before .before .before .before .args .room))
+roomy c = room-enough roomSpiderize _ (c .before .before .before .before .before .before .work-room .result) (c .before .before .before .before .before .before .work-room .ensures) _ (c .before .before .before .before .enum-told .given .1)
+
+-- how many pairs and nodes the graph has
+pairs : (c : tie.After-known-told) → length (graphOf (now (c .before .before .before .before .before .before .before .before .before .before .before .args .src)) .pairs) ≡ c .before .graph .given .0 .0 .pairs
+pairs c = sym (ap (λ (y : Sizes). y .pairs) (form c .sizes))
+
+nodes : (c : tie.After-known-told) → c .before .graph .given .0 .0 .nodes ≡ length (graphOf (now (c .before .before .before .before .before .before .before .before .before .before .before .args .src)) .labels)
+nodes c = ap (λ (y : Sizes). y .nodes) (form c .sizes)
+
+work-room-requires : tie.Need-work-room-requires
+work-room-requires c κs = search needs
+
+enum-told : tie.Need-enum-told
+enum-told c = search needs
+
+enum-told-2 : tie.Need-enum-told-2
+enum-told-2 c = search needs
+
+refusal-requires : tie.Need-refusal-requires
+refusal-requires c κs = search needs
 
 returns : tie.Need-returns
 returns c =
-    let a = c .before .before .before .before .before .args in
-    gives-refused _ (now (a .out)) 10 (no-room 16384 (length (now (a .room))) (onGraph form1 (now (a .src)) (length (now (a .out))) (spiderizeStep form1 (now (a .ids)))) (c .if1 .taken))
+    let S = c .before .before .before .before .before .before .before .before in
+    let x = c .before .enum-told2 .given in
+    let r = c .before .before .before .work-room in
+    passes (c .refusal .ensures ∙ ap refusalIn (x .1)) (gives-refused (x .0 .0) (now (S .args .out)) (work-short roomSpiderize _ (call S) (r .result) (r .ensures) (x .0 .0) (x .1)))
 
 read-requires : tie.Need-read-requires
 read-requires c κs = search needs
@@ -45,77 +76,104 @@ read-requires c κs = search needs
 enum-known-graph : tie.Need-enum-known-graph
 enum-known-graph c = search needs
 
-enum-told : tie.Need-enum-told
-enum-told c = search needs
-
-refusal-requires : tie.Need-refusal-requires
-refusal-requires c κs = search needs
-
-returns-2 : tie.Need-returns-2
-returns-2 c =
-    let a = c .before .before .before .before .before .before .before .before .before .args in
-    let r = c .before .before .before .read in
-    let x = c .before .enum-told .given in
-    let n = x .0 .0 .no in
-    let step = spiderizeStep form1 (now (a .ids)) in
-    let g = gives-refused _ (now (a .out)) n (in-room 16384 (length (now (a .room))) (onGraph form1 (now (a .src)) (length (now (a .out))) step) (omega arith)
-    ∙ call-unread form1 (now (a .src)) (length (now (a .out))) step n (unread (now (a .src)) (r .result) (r .ensures) (x .0 .0) (x .1))) in
-    (ap Refused (c .refusal .ensures ∙ ap readRefusal (x .1)) ∙ g .0, g .1)
-
-id-list-requires : tie.Need-id-list-requires
-id-list-requires c κs = search needs
-
-enum-known-list : tie.Need-enum-known-list
-enum-known-list c = search needs
-
-enum-told-2 : tie.Need-enum-told-2
-enum-told-2 c = search needs
+enum-told-3 : tie.Need-enum-told-3
+enum-told-3 c = search needs
 
 refusal-requires-2 : tie.Need-refusal-requires-2
 refusal-requires-2 c κs = search needs
 
+returns-2 : tie.Need-returns-2
+returns-2 c =
+    let S = c .before .before .before .before .before .before .before .before .before .before .before in
+    let x = c .before .enum-told3 .given in
+    let r = c .before .before .before .read in
+    passes (c .refusal2 .ensures ∙ ap refusalRead (x .1))
+    (gives-by (enough (c .before .before .before .before)) (graph-unread (now (S .args .src)) (next S) (now (S .args .out)) (x .0 .0) (unread (now (S .args .src)) (r .result) (r .ensures) (x .0 .0) (x .1))))
+
+id-list-requires : tie.Need-id-list-requires
+id-list-requires c κs = stored-rows (form c) .low .width
+
+enum-known-list : tie.Need-enum-known-list
+enum-known-list c = search needs
+
+enum-told-4 : tie.Need-enum-told-4
+enum-told-4 c = search needs
+
+refusal-requires-3 : tie.Need-refusal-requires-3
+refusal-requires-3 c κs = search needs
+
+width : (c : tie.After-known-told) → formatOf (now (c .before .before .before .before .before .before .before .before .before .before .before .args .src)) .width ≡ c .before .graph .given .0 .0 .width
+width c = sym (ap (λ (y : Sizes). y .width) (form c .sizes))
+
 returns-3 : tie.Need-returns-3
 returns-3 c =
-    let a = c .before .before .before .before .before .before .before .before .before .before .before .before .before .args in
-    let s = form (c .before .before .before .before) in
-    let z = c .before .before .before .before .before .graph .given .0 .0 in
+    let S = c .before .before .before .before .before .before .before .before .before .before .before .before .before .before .before in
+    let b = now (S .args .src) in
+    let x = c .before .enum-told4 .given in
     let l = c .before .before .before .id-list in
-    let x = c .before .enum-told2 .given in
-    let n = x .0 .0 .no in
-    let g = gives-refused _ (now (a .out)) n (in-room 16384 (length (now (a .room))) (onGraph form1 (now (a .src)) (length (now (a .out))) (spiderizeStep form1 (now (a .ids)))) (omega arith)
-    ∙ call-7 (now (a .src)) z s [] (length (now (a .out))) (now (a .ids)) n (list-refused (z .nodes) (now (a .ids)) (l .result) (l .ensures) (x .0 .0) (x .1))) in
-    (ap Refused (c .refusal2 .ensures ∙ ap listRefusal (x .1)) ∙ g .0, g .1)
+    let e = list-refused _ (l .result) (l .ensures (formatOf b) (width (c .before .before .before .before))) (x .0 .0) (x .1) in
+    passes (c .refusal3 .ensures ∙ ap refusalIn (x .1))
+    (gives-by (enough (c .before .before .before .before .before .before .before .before)) (graph-stopped b (next S) (now (S .args .out)) (form (c .before .before .before .before)) (x .0 .0)
+    (step-7 (formatOf b) (now (S .args .ids)) (graphOf b) (meantBy (x .0 .0)) (ap (λ (n : ℕ). idList (formatOf b) n (now (S .args .ids))) (sym (nodes (c .before .before .before .before))) ∙ e))))
+
+unpaired-requires : tie.Need-unpaired-requires
+unpaired-requires c κs = search needs
+
+enum-told-5 : tie.Need-enum-told-5
+enum-told-5 c = search needs
+
+enum-told-6 : tie.Need-enum-told-6
+enum-told-6 c = search needs
+
+refusal-requires-4 : tie.Need-refusal-requires-4
+refusal-requires-4 c κs = search needs
+
+-- the list that was checked
+abbrev chosen : tie.After-known-told2 → List ℕ
+chosen c = span (now (c .before .before .before .before .before .before .before .before .before .before .before .before .before .before .before .args .ids)) (rowAt 0 (c .before .before .before .before .before .graph .given .0 .0 .width)) 0 (c .before .list .given .0 .0)
+
+list : (c : tie.After-known-told2) → Given (formatOf (now (c .before .before .before .before .before .before .before .before .before .before .before .before .before .before .before .args .src))) (c .before .before .before .before .before .graph .given .0 .0 .nodes) (c .before .before .before .before .before .graph .given .0 .0 .width) (now (c .before .before .before .before .before .before .before .before .before .before .before .before .before .before .before .args .ids)) (c .before .list .given .0 .0)
+list c =
+    let z = c .before .before .before .before .before .graph .given .0 .0 in
+    let f = formatOf (now (c .before .before .before .before .before .before .before .before .before .before .before .before .before .before .before .args .src)) in
+    let l = c .before .before .before .id-list in
+    given f (z .nodes) (z .width) (now (c .before .before .before .before .before .before .before .before .before .before .before .before .before .before .before .args .ids)) (stored-rows (form (c .before .before .before .before)) .low .width) (width (c .before .before .before .before)) (l .result) (l .ensures f (width (c .before .before .before .before))) _ (c .before .list .given .1)
+
+is-list : (c : tie.After-known-told2) → idList (formatOf (now (c .before .before .before .before .before .before .before .before .before .before .before .before .before .before .before .args .src))) (length (graphOf (now (c .before .before .before .before .before .before .before .before .before .before .before .before .before .before .before .args .src)) .labels)) (now (c .before .before .before .before .before .before .before .before .before .before .before .before .before .before .before .args .ids))
+    ≡ answered (chosen c)
+is-list c = ap (λ (n : ℕ). idList (formatOf (now (c .before .before .before .before .before .before .before .before .before .before .before .before .before .before .before .args .src))) n (now (c .before .before .before .before .before .before .before .before .before .before .before .before .before .before .before .args .ids))) (sym (nodes (c .before .before .before .before))) ∙ list c .is
 
 returns-4 : tie.Need-returns-4
 returns-4 c =
-    let a = c .before .before .before .before .before .before .before .before .before .before .before .before .before .before .before .args in
-    let s = form (c .before .before .before .before .before .before) in
-    let z = c .before .before .before .before .before .before .before .graph .given .0 .0 in
-    let i = ids (c .before .before) in
-    gives-refused _ (now (a .out)) 8 (in-room 16384 (length (now (a .room))) (onGraph form1 (now (a .src)) (length (now (a .out))) (spiderizeStep form1 (now (a .ids)))) (omega arith)
-    ∙ call-8 (now (a .src)) z s [] (length (now (a .out))) (now (a .ids)) _ (i .is-list) (c .if2 .taken))
+    let S = c .before .before .before .before .before .before .before .before .before .before .before .before .before .before .before .before .before .before .before in
+    let b = now (S .args .src) in
+    let g = graphOf b in
+    let x = c .before .enum-told6 .given in
+    let u = c .before .before .before .unpaired in
+    passes (c .refusal4 .ensures ∙ ap refusalIn (x .1))
+    (gives-by (enough (c .before .before .before .before .before .before .before .before .before .before .before .before)) (graph-stopped b (next S) (now (S .args .out)) (form (c .before .before .before .before .before .before .before .before)) (x .0 .0)
+    (step-8 (formatOf b) (now (S .args .ids)) g _ (is-list (c .before .before .before .before)) (meantBy (x .0 .0)) (test-refused (unpaired g) (u .result) (u .ensures g (pairs (c .before .before .before .before .before .before .before .before))) (x .0 .0) (x .1)))))
 
 list-none-requires : tie.Need-list-none-requires
-list-none-requires c κs = let l = stored-limits (form (c .before .before .before .before .before .before .before)) in omega (arith, l .nodes)
+list-none-requires c κs = heads-held (form (c .before .before .before .before .before .before .before .before)) (now (c .before .before .before .before .before .before .before .before .before .before .before .before .before .before .before .before .before .before .before .args .room)) (roomy (c .before .before .before .before .before .before .before .before))
 
 list-ids-requires : tie.Need-list-ids-requires
 list-ids-requires c κs =
-    let l = stored-limits (form (c .before .before .before .before .before .before .before .before .before .before .before)) in
-    let i = ids (c .before .before .before .before .before .before .before) in
-    let h = c .before .before .before .list-none .kept .0 in
-    (i .long, i .below, omega (arith, l .nodes))
+    let l = list (c .before .before .before .before .before .before .before .before) in
+    (l .held, l .below, heads-held (form (c .before .before .before .before .before .before .before .before .before .before .before .before)) (c .before .before .before .list-none .last .0) (omega (arith, roomy (c .before .before .before .before .before .before .before .before .before .before .before .before), c .before .before .before .list-none .kept .0)))
+
+-- no pair is pending, and the table lists the nodes of the list
+none : (c : tie.After-enum-told5) → length (graphOf (now (c .before .before .before .before .before .before .before .before .before .before .before .before .before .before .before .before .before .before .args .src)) .pairs) ≡ 0
+none c = let u = c .before .before .unpaired in none-paired (graphOf (now (c .before .before .before .before .before .before .before .before .before .before .before .before .before .before .before .before .before .before .args .src))) (u .result) (u .ensures (graphOf (now (c .before .before .before .before .before .before .before .before .before .before .before .before .before .before .before .before .before .before .args .src))) (pairs (c .before .before .before .before .before .before .before))) _ (c .enum-told5 .given .1)
+
+listed : (c : tie.After-list-ids) → (isListed (c .before .before .before .before .before .before .before .before .before .before .before .before .before .before .graph .given .0 .0 .nodes) (cells (c .list-ids .last .0)) ≡ among (chosen (c .before .before .before .before .before .before .before .before .before)))
+    × Linked (c .before .before .before .before .before .before .before .before .before .before .before .before .before .before .graph .given .0 .0 .nodes) (cells (c .list-ids .last .0)) (c .before .before .before .before .before .before .before .before .before .before .before .before .before .before .graph .given .0 .0 .nodes) (λ k x. [])
+listed c = listed-ids (c .before .before .before .before .before .before .before .before .before .before .before .before .before .before .graph .given .0 .0 .nodes) (cells (c .list-ids .last .0)) (chosen (c .before .before .before .before .before .before .before .before .before)) (list (c .before .before .before .before .before .before .before .before .before) .below) (c .list-ids .ensures (c .before .before .before .before .list-none .ensures))
 
 write-spiderized-requires : tie.Need-write-spiderized-requires
 write-spiderized-requires c κs =
-    let s = form (c .before .before .before .before .before .before .before .before .before .before .before .before .before .before .before .before) in
-    let l = stored-limits s in
-    let i = ids (c .before .before .before .before .before .before .before .before .before .before .before .before) in
-    let f = c .before .before .before .before .before .before .before .before .list-none in
-    let g = c .before .before .before .before .list-ids in
-    let h = f .kept .0 in
-    let h′ = g .kept .0 in
-    let z = c .before .before .before .before .before .before .before .before .before .before .before .before .before .before .before .before .before .graph .given .0 .0 in
-    (whole-of s .1, c .before .before .before .before .before .before .before .before .before .before .if2 .left, omega arith, listed-ids (z .nodes) (cells (g .last .0)) (numbers 2 (c .before .before .before .before .before .before .before .before .before .before .before .before .before .list .given .0 .0) (now (c .before .before .before .before .before .before .before .before .before .before .before .before .before .before .before .before .before .before .before .before .before .before .before .before .before .args .ids))) (i .below) (g .ensures (f .ensures)) .1)
+    let l = listed (c .before .before .before .before) in
+    (form (c .before .before .before .before .before .before .before .before .before .before .before .before .before .before .before .before .before), sym (pairs (c .before .before .before .before .before .before .before .before .before .before .before .before .before .before .before .before .before)) ∙ none (c .before .before .before .before .before .before .before .before .before .before), omega (arith, roomy (c .before .before .before .before .before .before .before .before .before .before .before .before .before .before .before .before .before), c .before .before .before .before .list-ids .kept .0, c .before .before .before .before .before .before .before .before .list-none .kept .0), l .1, (chosen (c .before .before .before .before .before .before .before .before .before .before .before .before .before), l .0))
 
 same-length : tie.Need-same-length
 same-length c = search needs
@@ -125,35 +183,33 @@ same-length-2 c = search needs
 
 returns-5 : tie.Need-returns-5
 returns-5 c =
-    let a = c .before .before .before .before .before .before .before .before .before .before .before .before .before .before .before .before .before .before .before .before .before .before .before .before .before .before .before .before .before .before .args in
-    let s = form (c .before .before .before .before .before .before .before .before .before .before .before .before .before .before .before .before .before .before .before .before .before) in
-    let i = ids (c .before .before .before .before .before .before .before .before .before .before .before .before .before .before .before .before .before) in
-    let f = c .before .before .before .before .before .before .before .before .before .before .before .before .before .list-none in
-    let g = c .before .before .before .before .before .before .before .before .before .list-ids in
-    let z = c .before .before .before .before .before .before .before .before .before .before .before .before .before .before .before .before .before .before .before .before .before .before .graph .given .0 .0 in
-    let r = c .before .before .before .before .write-spiderized in
-    let W = cells (g .last .0) in
-    let room = length (now (a .out)) in
-    let e : answeredWith (now (a .src)) z W room ≡ inWorkRoom 16384 (length (now (a .room))) (onGraph form1 (now (a .src)) room (spiderizeStep form1 (now (a .ids)))) =
-    nodes-call (now (a .src)) z s W room (now (a .ids)) _ (i .is-list) (c .before .before .before .before .before .before .before .before .before .before .before .before .before .before .before .if2 .left) (listed-ids (z .nodes) W (numbers 2 (c .before .before .before .before .before .before .before .before .before .before .before .before .before .before .before .before .before .before .list .given .0 .0) (now (a .ids))) (i .below) (g .ensures (f .ensures)) .0)
-    ∙ sym (in-room 16384 (length (now (a .room))) (onGraph form1 (now (a .src)) room (spiderizeStep form1 (now (a .ids)))) (omega (arith, c .before .before .before .before .before .before .before .before .before .before .before .before .before .before .before .before .before .before .before .before .before .before .before .before .before .if1 .left))) in
-    (r .ensures .0 ∙ ap written e, r .ensures .1 ∙ ap (λ (x : Answer Made). laid (λ m. m .form) x (now (a .out))) e)
+    let S = c .before .before .before .before .before .before .before .before .before .before .before .before .before .before .before .before .before .before .before .before .before .before .before .before .before .before .before .before .before .before .before .before .before in
+    let b = now (S .args .src) in
+    gives-by (enough (c .before .before .before .before .before .before .before .before .before .before .before .before .before .before .before .before .before .before .before .before .before .before .before .before .before .before)) (c .before .before .before .before .write-spiderized .ensures (next S) (step-0 (formatOf b) (now (S .args .ids)) (graphOf b) _ (is-list (c .before .before .before .before .before .before .before .before .before .before .before .before .before .before .before .before .before .before)) (none (c .before .before .before .before .before .before .before .before .before .before .before .before .before .before .before)) _ (listed (c .before .before .before .before .before .before .before .before .before) .0)))
 
 pub spiderize-nodes-spec : {M : Type 1} → statement M
 spiderize-nodes-spec =
     tie.close
     (tie.spec
+    work-room-requires
+    enum-told
+    enum-told-2
+    refusal-requires
     returns
     read-requires
     enum-known-graph
-    enum-told
-    refusal-requires
+    enum-told-3
+    refusal-requires-2
     returns-2
     id-list-requires
     enum-known-list
-    enum-told-2
-    refusal-requires-2
+    enum-told-4
+    refusal-requires-3
     returns-3
+    unpaired-requires
+    enum-told-5
+    enum-told-6
+    refusal-requires-4
     returns-4
     list-none-requires
     list-ids-requires

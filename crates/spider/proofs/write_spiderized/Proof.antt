@@ -1,197 +1,98 @@
 -- `spider::write_spiderized` meets its contract.
 -- Assumes nothing.
-use mathlib.Core.Path.{_≡_, sym, ap, _∙_, subst}
-use Prim.Native.Nat.{ℕ, _+_, _*_}
-use native.Mathlib.Omega.{arith}
-use lib.ListN.{length, drop}
+use mathlib.Core.List.{List, []}
+use mathlib.Core.Path.{_≡_, refl, sym, ap, _∙_}
+use Prim.Native.Nat.{ℕ, _+_, _*_, _≤_}
+use lib.ListN.{length}
 use denote.Ref.{now}
+use Rattle.form.specs.Form.{countsOf, sizesOf, refusalIn, bodyOf}
+use Rattle.form.specs.declared.Sizes.{Sizes}
+use Rattle.form.proofs.Answers.{number-answered}
+use Rattle.form.proofs.Stored.{stored-rows}
+use Rattle.graph.specs.Calls.{Next}
+use Rattle.graph.specs.Form.{labelRow, body}
+use Rattle.graph.specs.Lists.{keep}
+use Rattle.graph.specs.Versions.{fitting}
+use Rattle.le.specs.Rows.{puts}
+use Rattle.links.specs.Links.{cells, cellCount, isListed}
+use Rattle.write.specs.Write.{fitted}
+use Rattle.write.proofs.Calls.{graph-refused, graph-done}
+use Rattle.write.proofs.Results.{Fits, result-fits, fits-room, room-same, drawn-numbers}
+use Rattle.spider.specs.Rewriting.{spidered, Plan}
+use Rattle.spider.proofs.Calls.{passes}
+use Rattle.spider.proofs.Parts.{lists-read, sizes-are, heads-held, fresh-few}
 use borrow.Author.Needs.{needs}
-use Rattle.form.specs.Form.{fitRefusal, refusal}
-use Rattle.form.specs.declared.Written.the-variants.{Done, Refused}
-use Rattle.graph.specs.Form.{encode}
-use Rattle.graph.specs.Graph.{form1}
-use Rattle.graph.specs.Lists.{keep, range}
-use Rattle.graph.specs.Spider.{entries}
-use Rattle.le.specs.Le.{Below, numbers}
-use Rattle.links.specs.Links.{cells, marked}
-use Rattle.spider.specs.Rewriting.{spidered, answeredWith, Counted}
-use Rattle.form.specs.Stored.{graphOf}
-use Rattle.form.proofs.Calls.{gives-refused, gives-done}
-use Rattle.le.proofs.Numbers.{below-append}
-use Rattle.spider.proofs.Calls.{fresh-is, too-large, fits, written-whole, few-listed}
-use Rattle.form.proofs.Walk.{globals-below, long, limits, globals-read}
+use native.Mathlib.Omega.{arith}
 use Rattle.spider.proofs.write_spiderized.Statement.{statement}
 use Rattle.spider.proofs.write_spiderized.Tie as tie
 
-lists-at-requires : tie.Need-lists-at-requires
-lists-at-requires c κs =
-    let S = c .before .before .before in
-    let a = S .args in
-    let w = S .pre .0 in
-    let q = limits w in
-    let lb = long w in
-    let W = cells (now (a .room)) in
-    (q .nodes, q .edges, q .ports)
+-- the graph that is written
+abbrev result : tie.Start → Next
+result S = record { graph = spidered (now (S .args .src)) (S .args .z) (cells (now (S .args .room))); id = 0 }
+
+heads : (S : tie.Start) → S .args .z .nodes * 4 ≤ cellCount (now (S .args .room))
+heads S = heads-held (S .pre .0) (now (S .args .room)) (S .pre .2)
+
+mul-lists : tie.Need-mul-lists
+mul-lists c = omega (arith, stored-rows (c .before .before .before .before .pre .0) .low .edges)
+
+add-lists : tie.Need-add-lists
+add-lists c = let l = stored-rows (c .before .before .before .before .before .pre .0) .low in omega (arith, l .edges, l .ports)
 
 count-edges-requires : tie.Need-count-edges-requires
-count-edges-requires c κs =
-    let S = c .before .before .before .before .before in
-    let a = S .args in
-    let w = S .pre .0 in
-    let q = limits w in
-    let lb = long w in
-    let W = cells (now (a .room)) in
-    (w, omega (arith, S .pre .2))
+count-edges-requires c κs = (c .before .before .before .before .before .before .pre .0, heads (c .before .before .before .before .before .before))
 
-add-count-list : tie.Need-add-count-list
-add-count-list c =
-    let S = c .before .before .before .before .before .before .before in
-    let a = S .args in
-    let w = S .pre .0 in
-    let q = limits w in
-    let lb = long w in
-    let W = cells (now (a .room)) in
-    let x = c .before .count-edges in
-    omega arith
+add-count-part : tie.Need-add-count-part
+add-count-part c = let l = stored-rows (c .before .before .before .before .before .before .before .before .pre .0) .low in omega (arith, l .sources, l .targets)
 
-count-list-requires : tie.Need-count-list-requires
-count-list-requires c κs =
-    let S = c .before .before .before .before .before .before .before .before in
-    let a = S .args in
-    let w = S .pre .0 in
-    let q = limits w in
-    let lb = long w in
-    let W = cells (now (a .room)) in
-    let x = c .before .before .count-edges in
-    let gl = globals-read w (c .before .before .before .before .lists-at .result) (c .before .before .before .before .lists-at .ensures) in
-    let below = subst (Below (a .z .nodes)) (sym gl) (below-append (a .z .nodes) (graphOf (now (a .src)) .sources) (graphOf (now (a .src)) .targets) (globals-below w .0) (globals-below w .1)) in
-    (omega (arith, c .before .before .before .before .lists-at .ensures), below, omega (arith, S .pre .2))
+count-part-requires : tie.Need-count-part-requires
+count-part-requires c κs = (lists-read (c .before .before .before .before .before .before .before .before .before .pre .0) .both, heads (c .before .before .before .before .before .before .before .before .before))
+
+-- there are no more fresh nodes than entries
+few : (c : tie.After-count-part) → c .before .before .before .count-edges .result + c .count-part .result ≤ c .before .before .before .before .before .before .before .before .before .before .args .z .ports + (c .before .before .before .before .before .before .before .before .before .before .args .z .sources + c .before .before .before .before .before .before .before .before .before .before .args .z .targets)
+few c =
+    let S = c .before .before .before .before .before .before .before .before .before .before in
+    let f = fresh-few (S .pre .0) (isListed (S .args .z .nodes) (cells (now (S .args .room)))) in
+    omega (arith, f .0, f .1, c .before .before .before .count-edges .ensures, c .count-part .ensures)
 
 add-fresh : tie.Need-add-fresh
-add-fresh c =
-    let S = c .before .before .before .before .before .before .before .before .before in
-    let a = S .args in
-    let w = S .pre .0 in
-    let q = limits w in
-    let lb = long w in
-    let W = cells (now (a .room)) in
-    let x = c .before .before .before .count-edges in
-    let gl = globals-read w (c .before .before .before .before .before .lists-at .result) (c .before .before .before .before .before .lists-at .ensures) in
-    let y = c .count-list in
-    let x₁ = x .ensures .1 in
-    let y₁ = y .ensures .1 in
-    omega arith
+add-fresh c = let l = stored-rows (c .before .before .before .before .before .before .before .before .before .before .pre .0) .low in omega (arith, few c, l .ports, l .sources, l .targets)
 
 count-listed-requires : tie.Need-count-listed-requires
-count-listed-requires c κs =
-    let S = c .before .before .before .before .before .before .before .before .before .before in
-    let a = S .args in
-    let w = S .pre .0 in
-    let q = limits w in
-    let lb = long w in
-    let W = cells (now (a .room)) in
-    let x = c .before .before .before .before .count-edges in
-    let gl = globals-read w (c .before .before .before .before .before .before .lists-at .result) (c .before .before .before .before .before .before .lists-at .ensures) in
-    let y = c .before .count-list in
-    let x₁ = x .ensures .1 in
-    let y₁ = y .ensures .1 in
-    omega (arith, S .pre .2)
+count-listed-requires c κs = heads (c .before .before .before .before .before .before .before .before .before .before .before)
 
 mul-spiders : tie.Need-mul-spiders
-mul-spiders c =
-    let S = c .before .before .before .before .before .before .before .before .before .before .before in
-    let a = S .args in
-    let w = S .pre .0 in
-    let q = limits w in
-    let lb = long w in
-    let W = cells (now (a .room)) in
-    let x = c .before .before .before .before .before .count-edges in
-    let gl = globals-read w (c .before .before .before .before .before .before .before .lists-at .result) (c .before .before .before .before .before .before .before .lists-at .ensures) in
-    let y = c .before .before .count-list in
-    let x₁ = x .ensures .1 in
-    let y₁ = y .ensures .1 in
-    let v = c .count-listed in
-    let v₁ = few-listed (marked (a .z .nodes) W) (a .z .nodes) in
-    let v₂ = v .ensures in
-    omega arith
+mul-spiders c = omega (arith, c .count-listed .ensures .1, stored-rows (c .before .before .before .before .before .before .before .before .before .before .before .before .pre .0) .low .nodes)
 
-add-result-size : tie.Need-add-result-size
-add-result-size c =
-    let S = c .before .before .before .before .before .before .before .before .before .before .before .before in
-    let a = S .args in
-    let w = S .pre .0 in
-    let q = limits w in
-    let lb = long w in
-    let W = cells (now (a .room)) in
-    let x = c .before .before .before .before .before .before .count-edges in
-    let gl = globals-read w (c .before .before .before .before .before .before .before .before .lists-at .result) (c .before .before .before .before .before .before .before .before .lists-at .ensures) in
-    let y = c .before .before .before .count-list in
-    let x₁ = x .ensures .1 in
-    let y₁ = y .ensures .1 in
-    let v = c .before .count-listed in
-    let v₁ = few-listed (marked (a .z .nodes) W) (a .z .nodes) in
-    let v₂ = v .ensures in
-    omega arith
+add-sized : tie.Need-add-sized
+add-sized c = let l = stored-rows (c .before .before .before .before .before .before .before .before .before .before .before .before .before .pre .0) .low in omega (arith, few (c .before .before .before), l .nodes, l .ports, l .sources, l .targets)
 
-add-t11 : tie.Need-add-t11
-add-t11 c =
-    let S = c .before .before .before .before .before .before .before .before .before .before .before .before .before in
-    let a = S .args in
-    let w = S .pre .0 in
-    let q = limits w in
-    let lb = long w in
-    let W = cells (now (a .room)) in
-    let x = c .before .before .before .before .before .before .before .count-edges in
-    let gl = globals-read w (c .before .before .before .before .before .before .before .before .before .lists-at .result) (c .before .before .before .before .before .before .before .before .before .lists-at .ensures) in
-    let y = c .before .before .before .before .count-list in
-    let x₁ = x .ensures .1 in
-    let y₁ = y .ensures .1 in
-    let v = c .before .before .count-listed in
-    let v₁ = few-listed (marked (a .z .nodes) W) (a .z .nodes) in
-    let v₂ = v .ensures in
-    omega arith
+add-sized-2 : tie.Need-add-sized-2
+add-sized-2 c = let l = stored-rows (c .before .before .before .before .before .before .before .before .before .before .before .before .before .before .pre .0) .low in omega (arith, c .before .before .count-listed .ensures .1, l .nodes, l .edges)
 
-add-t14 : tie.Need-add-t14
-add-t14 c =
-    let S = c .before .before .before .before .before .before .before .before .before .before .before .before .before in
-    let a = S .args in
-    let w = S .pre .0 in
-    let q = limits w in
-    let lb = long w in
-    let W = cells (now (a .room)) in
-    let x = c .before .before .before .before .before .before .before .count-edges in
-    let gl = globals-read w (c .before .before .before .before .before .before .before .before .before .lists-at .result) (c .before .before .before .before .before .before .before .before .before .lists-at .ensures) in
-    let y = c .before .before .before .before .count-list in
-    let x₁ = x .ensures .1 in
-    let y₁ = y .ensures .1 in
-    let v = c .before .before .count-listed in
-    let v₁ = few-listed (marked (a .z .nodes) W) (a .z .nodes) in
-    let v₂ = v .ensures in
-    omega arith
+add-sized-3 : tie.Need-add-sized-3
+add-sized-3 c = let l = stored-rows (c .before .before .before .before .before .before .before .before .before .before .before .before .before .before .pre .0) .low in omega (arith, few (c .before .before .before .before), c .before .before .count-listed .ensures .1, l .nodes, l .ports, l .sources, l .targets)
 
-add-t20 : tie.Need-add-t20
-add-t20 c =
-    let S = c .before .before .before .before .before .before .before .before .before .before .before .before .before .before in
-    let a = S .args in
-    let w = S .pre .0 in
-    let q = limits w in
-    let lb = long w in
-    let W = cells (now (a .room)) in
-    let x = c .before .before .before .before .before .before .before .before .count-edges in
-    let gl = globals-read w (c .before .before .before .before .before .before .before .before .before .before .lists-at .result) (c .before .before .before .before .before .before .before .before .before .before .lists-at .ensures) in
-    let y = c .before .before .before .before .before .count-list in
-    let x₁ = x .ensures .1 in
-    let y₁ = y .ensures .1 in
-    let v = c .before .before .before .count-listed in
-    let v₁ = few-listed (marked (a .z .nodes) W) (a .z .nodes) in
-    let v₂ = v .ensures in
-    omega arith
+add-sized-4 : tie.Need-add-sized-4
+add-sized-4 c = let l = stored-rows (c .before .before .before .before .before .before .before .before .before .before .before .before .before .before .before .pre .0) .low in omega (arith, few (c .before .before .before .before .before), c .before .before .before .count-listed .ensures .1, l .nodes, l .ports, l .sources, l .targets)
+
+sized-requires : tie.Need-sized-requires
+sized-requires c κs = search needs
+
+sizes : (c : tie.After-sized) → c .sized .result ≡ sizesOf (fitting (result (c .before .before .before .before .before .before .before .before .before .before .before .before .before .before .before .before) .graph)) (result (c .before .before .before .before .before .before .before .before .before .before .before .before .before .before .before .before) .graph)
+sizes c =
+    let S = c .before .before .before .before .before .before .before .before .before .before .before .before .before .before .before .before in
+    let W = cells (now (S .args .room)) in
+    let m = isListed (S .args .z .nodes) W in
+    c .sized .ensures
+    ∙ sizes-are (S .pre .0) W (S .pre .4 .0) (S .pre .4 .1) (c .before .before .before .before .before .before .before .before .before .count-edges .result) (c .before .before .before .before .before .before .count-part .result) (2 * c .before .before .before .before .count-listed .result) (c .before .before .before .before .before .before .before .before .before .count-edges .ensures)
+    (c .before .before .before .before .before .before .count-part .ensures ∙ ap (λ (xs : List ℕ). length (keep m xs)) (lists-read (S .pre .0) .both-ids)) (ap (λ (n : ℕ). 2 * n) (c .before .before .before .before .count-listed .ensures .0))
 
 result-size-requires : tie.Need-result-size-requires
-result-size-requires c κs = search needs
+result-size-requires c κs = sizes c ∙ ap (λ (y : Sizes). fitted (countsOf y) (y .ports)) (sym (sizes c))
 
-enum-known-fit : tie.Need-enum-known-fit
-enum-known-fit c = search needs
+enum-known-size : tie.Need-enum-known-size
+enum-known-size c = search needs
 
 enum-told : tie.Need-enum-told
 enum-told c = search needs
@@ -203,139 +104,81 @@ same-length : tie.Need-same-length
 same-length c = search needs
 
 returns : tie.Need-returns
-returns c =
-    let S = c .before .before .before .before .before .before .before .before .before .before .before .before .before .before .before .before .before .before in
-    let a = S .args in
-    let w = S .pre .0 in
-    let q = limits w in
-    let lb = long w in
-    let W = cells (now (a .room)) in
-    let x = c .before .before .before .before .before .before .before .before .before .before .before .before .count-edges in
-    let gl = globals-read w (c .before .before .before .before .before .before .before .before .before .before .before .before .before .before .lists-at .result) (c .before .before .before .before .before .before .before .before .before .before .before .before .before .before .lists-at .ensures) in
-    let y = c .before .before .before .before .before .before .before .before .before .count-list in
-    let x₁ = x .ensures .1 in
-    let y₁ = y .ensures .1 in
-    let v = c .before .before .before .before .before .before .before .count-listed in
-    let v₁ = few-listed (marked (a .z .nodes) W) (a .z .nodes) in
-    let v₂ = v .ensures in
-    let fresh = x .result + y .result in
-    let spiders = 2 * v .result in
-    let is-fresh : fresh ≡ length (keep (marked (a .z .nodes) W) (entries (graphOf (now (a .src))))) = fresh-is w W (x .result) (y .result) (numbers 2 (a .z .sources + a .z .targets) (drop (c .before .before .before .before .before .before .before .before .before .before .before .before .before .before .lists-at .result) (now (a .src)))) (x .ensures .0) (y .ensures .0) gl in
-    let is-spiders : spiders ≡ 2 * length (keep (marked (a .z .nodes) W) (range 0 (a .z .nodes))) = ap (λ (k : ℕ). 2 * k) (v .ensures) in
-    let room = length (now (a .out)) in
-    let t = c .before .enum-told .given in
-    let e = too-large w W fresh spiders is-fresh is-spiders room (t .0 .0) (sym (c .before .before .before .result-size .ensures) ∙ t .1) in
-    let g = gives-refused (answeredWith (now (a .src)) (a .z) W room) (now (a .out)) (t .0 .0 .no) e in
-    (ap Refused (c .refusal .ensures ∙ ap fitRefusal (t .1)) ∙ g .0, g .1)
+returns c = λ next is.
+    let S = c .before .before .before .before .before .before .before .before .before .before .before .before .before .before .before .before .before .before .before .before in
+    let x = c .before .enum-told .given in
+    let r = c .before .before .before .result-size in
+    passes (c .refusal .ensures ∙ ap refusalIn (x .1))
+    (graph-refused (now (S .args .src)) next (now (S .args .out)) (S .pre .0) (result S) is (c .before .before .before .before .sized .result) (sizes (c .before .before .before .before)) (r .result) (r .ensures) (x .0 .0) (x .1))
+
+fits : (c : tie.After-known-told) → Fits (result (c .before .before .before .before .before .before .before .before .before .before .before .before .before .before .before .before .before .before .before .before)) (c .before .before .before .before .sized .result) (length (now (c .before .before .before .before .before .before .before .before .before .before .before .before .before .before .before .before .before .before .before .before .args .out))) (c .before .size .given .0 .0)
+fits c = let r = c .before .before .before .result-size in result-fits (result (c .before .before .before .before .before .before .before .before .before .before .before .before .before .before .before .before .before .before .before .before)) (c .before .before .before .before .sized .result) (sizes (c .before .before .before .before)) (length (now (c .before .before .before .before .before .before .before .before .before .before .before .before .before .before .before .before .before .before .before .before .args .out))) _ (number-answered _ (r .result) (r .ensures) _ (c .before .size .given .1))
+
+plan : (c : tie.After-known-told) → Plan (now (c .before .before .before .before .before .before .before .before .before .before .before .before .before .before .before .before .before .before .before .before .args .src)) (c .before .before .before .before .before .before .before .before .before .before .before .before .before .before .before .before .before .before .before .before .args .z) (c .before .before .before .before .sized .result) (now (c .before .before .before .before .before .before .before .before .before .before .before .before .before .before .before .before .before .before .before .before .args .room))
+plan c =
+    let S = c .before .before .before .before .before .before .before .before .before .before .before .before .before .before .before .before .before .before .before .before in
+    let n = fits c .counts .nodes in
+    record {
+      stored = S .pre .0;
+      unpaired = S .pre .1;
+      ids = S .pre .4 .0;
+      listed = S .pre .4 .1;
+      sizes = sizes (c .before .before .before .before);
+      numbered = record {
+        from = omega arith;
+        few = omega arith;
+        heads = heads S;
+        links = omega (arith, S .pre .2, S .pre .0 .within .counts .nodes, ap (λ (y : Sizes). y .nodes) (S .pre .0 .sizes));
+      };
+      empty = S .pre .3;
+    }
 
 put-front-requires : tie.Need-put-front-requires
-put-front-requires c κs =
-    let S = c .before .before .before .before .before .before .before .before .before .before .before .before .before .before .before .before .before .before .before .before in
-    let a = S .args in
-    let w = S .pre .0 in
-    let q = limits w in
-    let lb = long w in
-    let W = cells (now (a .room)) in
-    let x = c .before .before .before .before .before .before .before .before .before .before .before .before .before .before .count-edges in
-    let gl = globals-read w (c .before .before .before .before .before .before .before .before .before .before .before .before .before .before .before .before .lists-at .result) (c .before .before .before .before .before .before .before .before .before .before .before .before .before .before .before .before .lists-at .ensures) in
-    let y = c .before .before .before .before .before .before .before .before .before .before .before .count-list in
-    let x₁ = x .ensures .1 in
-    let y₁ = y .ensures .1 in
-    let v = c .before .before .before .before .before .before .before .before .before .count-listed in
-    let v₁ = few-listed (marked (a .z .nodes) W) (a .z .nodes) in
-    let v₂ = v .ensures in
-    let fresh = x .result + y .result in
-    let spiders = 2 * v .result in
-    let is-fresh : fresh ≡ length (keep (marked (a .z .nodes) W) (entries (graphOf (now (a .src))))) = fresh-is w W (x .result) (y .result) (numbers 2 (a .z .sources + a .z .targets) (drop (c .before .before .before .before .before .before .before .before .before .before .before .before .before .before .before .before .lists-at .result) (now (a .src)))) (x .ensures .0) (y .ensures .0) gl in
-    let is-spiders : spiders ≡ 2 * length (keep (marked (a .z .nodes) W) (range 0 (a .z .nodes))) = ap (λ (k : ℕ). 2 * k) (v .ensures) in
-    let room = length (now (a .out)) in
-    let r = fits w W fresh spiders is-fresh is-spiders room (c .before .before .before .fit .given .0 .0) (sym (c .before .before .before .before .before .result-size .ensures) ∙ c .before .before .before .fit .given .1) in
-    let k : Counted (now (a .src)) (a .z) W fresh spiders = record { whole = w; unpaired = S .pre .1; is-fresh = is-fresh; is-spiders = is-spiders; nodes = r .nodes; edges = r .edges; ports = r .ports } in
-    (k, omega (arith, S .pre .2), omega (arith, r .lists))
+put-front-requires c κs = (plan (c .before .before), fits-room (fits (c .before .before)) _ refl)
 
-rewrite-occurrences-requires : tie.Need-rewrite-occurrences-requires
-rewrite-occurrences-requires c κs =
-    let S = c .before .before .before .before .before .before .before .before .before .before .before .before .before .before .before .before .before .before .before .before .before .before .before .before .before in
-    let a = S .args in
-    let w = S .pre .0 in
-    let q = limits w in
-    let lb = long w in
-    let W = cells (now (a .room)) in
-    let x = c .before .before .before .before .before .before .before .before .before .before .before .before .before .before .before .before .before .before .before .count-edges in
-    let gl = globals-read w (c .before .before .before .before .before .before .before .before .before .before .before .before .before .before .before .before .before .before .before .before .before .lists-at .result) (c .before .before .before .before .before .before .before .before .before .before .before .before .before .before .before .before .before .before .before .before .before .lists-at .ensures) in
-    let y = c .before .before .before .before .before .before .before .before .before .before .before .before .before .before .before .before .count-list in
-    let x₁ = x .ensures .1 in
-    let y₁ = y .ensures .1 in
-    let v = c .before .before .before .before .before .before .before .before .before .before .before .before .before .before .count-listed in
-    let v₁ = few-listed (marked (a .z .nodes) W) (a .z .nodes) in
-    let v₂ = v .ensures in
-    let fresh = x .result + y .result in
-    let spiders = 2 * v .result in
-    let is-fresh : fresh ≡ length (keep (marked (a .z .nodes) W) (entries (graphOf (now (a .src))))) = fresh-is w W (x .result) (y .result) (numbers 2 (a .z .sources + a .z .targets) (drop (c .before .before .before .before .before .before .before .before .before .before .before .before .before .before .before .before .before .before .before .before .before .lists-at .result) (now (a .src)))) (x .ensures .0) (y .ensures .0) gl in
-    let is-spiders : spiders ≡ 2 * length (keep (marked (a .z .nodes) W) (range 0 (a .z .nodes))) = ap (λ (k : ℕ). 2 * k) (v .ensures) in
-    let room = length (now (a .out)) in
-    let r = fits w W fresh spiders is-fresh is-spiders room (c .before .before .before .before .before .before .before .before .fit .given .0 .0) (sym (c .before .before .before .before .before .before .before .before .before .before .result-size .ensures) ∙ c .before .before .before .before .before .before .before .before .fit .given .1) in
-    let k : Counted (now (a .src)) (a .z) W fresh spiders = record { whole = w; unpaired = S .pre .1; is-fresh = is-fresh; is-spiders = is-spiders; nodes = r .nodes; edges = r .edges; ports = r .ports } in
-    let h = c .before .before .before .before .put-front .kept .1 .1 .1 .1 .1 .0 in
-    (k, omega (arith, S .pre .2), S .pre .3, omega (arith, r .lists))
+rewrite-all-requires : tie.Need-rewrite-all-requires
+rewrite-all-requires c κs = (plan (c .before .before .before .before .before .before .before), room-same {out = now (c .before .before .before .before .before .before .before .before .before .before .before .before .before .before .before .before .before .before .before .before .before .before .before .before .before .before .before .args .out)} (fits-room (fits (c .before .before .before .before .before .before .before)) _ refl) _ (c .before .before .before .before .put-front .kept .1 .1 .1 .1 .0))
 
 same-length-2 : tie.Need-same-length-2
-same-length-2 c = search needs
+same-length-2 c = c .before .before .before .before .rewrite-all .kept .1 .1 .1 .0
 
 same-length-3 : tie.Need-same-length-3
-same-length-3 c = search needs
+same-length-3 c = c .before .before .before .before .rewrite-all .kept .1 .1 .1 .1 .0 ∙ c .before .before .before .before .before .before .before .before .before .put-front .kept .1 .1 .1 .1 .0
 
 returns-2 : tie.Need-returns-2
-returns-2 c =
-    let S = c .before .before .before .before .before .before .before .before .before .before .before .before .before .before .before .before .before .before .before .before .before .before .before .before .before .before .before .before .before .before in
-    let a = S .args in
-    let w = S .pre .0 in
-    let q = limits w in
-    let lb = long w in
-    let W = cells (now (a .room)) in
-    let x = c .before .before .before .before .before .before .before .before .before .before .before .before .before .before .before .before .before .before .before .before .before .before .before .before .count-edges in
-    let gl = globals-read w (c .before .before .before .before .before .before .before .before .before .before .before .before .before .before .before .before .before .before .before .before .before .before .before .before .before .before .lists-at .result) (c .before .before .before .before .before .before .before .before .before .before .before .before .before .before .before .before .before .before .before .before .before .before .before .before .before .before .lists-at .ensures) in
-    let y = c .before .before .before .before .before .before .before .before .before .before .before .before .before .before .before .before .before .before .before .before .before .count-list in
-    let x₁ = x .ensures .1 in
-    let y₁ = y .ensures .1 in
-    let v = c .before .before .before .before .before .before .before .before .before .before .before .before .before .before .before .before .before .before .before .count-listed in
-    let v₁ = few-listed (marked (a .z .nodes) W) (a .z .nodes) in
-    let v₂ = v .ensures in
-    let fresh = x .result + y .result in
-    let spiders = 2 * v .result in
-    let is-fresh : fresh ≡ length (keep (marked (a .z .nodes) W) (entries (graphOf (now (a .src))))) = fresh-is w W (x .result) (y .result) (numbers 2 (a .z .sources + a .z .targets) (drop (c .before .before .before .before .before .before .before .before .before .before .before .before .before .before .before .before .before .before .before .before .before .before .before .before .before .before .lists-at .result) (now (a .src)))) (x .ensures .0) (y .ensures .0) gl in
-    let is-spiders : spiders ≡ 2 * length (keep (marked (a .z .nodes) W) (range 0 (a .z .nodes))) = ap (λ (k : ℕ). 2 * k) (v .ensures) in
-    let room = length (now (a .out)) in
-    let r = fits w W fresh spiders is-fresh is-spiders room (c .before .before .before .before .before .before .before .before .before .before .before .before .before .fit .given .0 .0) (sym (c .before .before .before .before .before .before .before .before .before .before .before .before .before .before .before .result-size .ensures) ∙ c .before .before .before .before .before .before .before .before .before .before .before .before .before .fit .given .1) in
-    let k : Counted (now (a .src)) (a .z) W fresh spiders = record { whole = w; unpaired = S .pre .1; is-fresh = is-fresh; is-spiders = is-spiders; nodes = r .nodes; edges = r .edges; ports = r .ports } in
-    let f = c .before .before .before .before .before .before .before .before .before .put-front in
-    let o = c .before .before .before .before .rewrite-occurrences in
-    let g = gives-done (answeredWith (now (a .src)) (a .z) W room) (now (a .out)) (record { form = encode form1 (spidered (now (a .src)) (a .z) W); id = 0 }) (r .makes) in
-    (ap (λ (n : ℕ). Done n 0) (r .long) ∙ g .0, written-whole w W fresh spiders k (now (a .out)) (f .last .1 .1 .1 .1 .1 .0) (o .last .1 .1 .1 .1 .1 .0) (r .enough) (f .ensures) (o .ensures) ∙ g .1)
+returns-2 c = λ next is.
+    let S = c .before .before .before .before .before .before .before .before .before .before .before .before .before .before .before .before .before .before .before .before .before .before .before .before .before .before .before .before .before .before .before .before in
+    let r = c .before .before .before .before .before .before .before .before .before .before .before .before .before .before .before .result-size in
+    let y = c .before .before .before .before .before .before .before .before .before .before .before .before .before .before .before .before .sized .result in
+    let h = result S .graph in
+    graph-done (now (S .args .src)) next (now (S .args .out)) (S .pre .0) (result S) is y (sizes (c .before .before .before .before .before .before .before .before .before .before .before .before .before .before .before .before)) (r .result) (r .ensures) _ (c .before .before .before .before .before .before .before .before .before .before .before .before .before .size .given .1) _
+    (c .before .before .before .before .rewrite-all .ensures ∙ ap (λ (o : List ℕ). puts o (bodyOf y) 0 (body h)) (c .before .before .before .before .before .before .before .before .before .put-front .ensures) ∙ drawn-numbers (now (S .args .out)) y (labelRow h) [] (body h) 0 refl)
 
 pub write-spiderized-spec : {M : Type 1} → statement M
 write-spiderized-spec =
     tie.close
     (tie.spec
-    lists-at-requires
+    mul-lists
+    add-lists
     count-edges-requires
-    add-count-list
-    count-list-requires
+    add-count-part
+    count-part-requires
     add-fresh
     count-listed-requires
     mul-spiders
-    add-result-size
-    add-t11
-    add-t14
-    add-t20
+    add-sized
+    add-sized-2
+    add-sized-3
+    add-sized-4
+    sized-requires
     result-size-requires
-    enum-known-fit
+    enum-known-size
     enum-told
     refusal-requires
     same-length
     returns
     put-front-requires
-    rewrite-occurrences-requires
+    rewrite-all-requires
     same-length-2
     same-length-3
     returns-2)

@@ -2,7 +2,7 @@
 -- Assumes nothing.
 use mathlib.Core.Path.{sym, ap}
 use borrow.Author.Needs.{needs}
-use Rattle.form.specs.Form.{stepRefusal}
+use Rattle.form.specs.Form.{refusalIn}
 use Rattle.form.proofs.Step.refusal.Statement.{statement}
 use Rattle.form.proofs.Step.refusal.Tie as tie
 
@@ -13,7 +13,7 @@ enum-known-self : tie.Need-enum-known-self
 enum-known-self c = search needs
 
 returns : tie.Need-returns
-returns c = sym (ap stepRefusal (c .enum-told .given .1))
+returns c = sym (ap refusalIn (c .enum-told .given .1))
 
 returns-2 : tie.Need-returns-2
 returns-2 c = search needs

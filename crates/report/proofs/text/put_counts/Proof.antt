@@ -4,7 +4,7 @@ use mathlib.Core.List.{_++_}
 use borrow.Author.Needs.{needs}
 use Rattle.report.specs.Report.{field}
 use Rattle.report.specs.Text.{ascii}
-use Rattle.report.proofs.Texts.{put-then}
+use Rattle.report.proofs.Texts.{printed-then}
 use Rattle.report.proofs.text.put_counts.Statement.{statement}
 use Rattle.report.proofs.text.put_counts.Tie as tie
 
@@ -37,8 +37,8 @@ returns c =
     let a = first .before .before .before .before .args in
     let cut = field "cut " (a .ids) in
     let free = field " free " (a .free) in
-    let both = put-then cut free (first .put-field .ensures .0) (second .put-field2 .ensures .0) in
-    (put-then (cut ++ free) (ascii "\n") both (end .put-text .ensures), search needs)
+    let both = printed-then cut free (first .put-field .ensures .0) (second .put-field2 .ensures .0) in
+    (printed-then (cut ++ free) (ascii "\n") both (end .put-text .ensures), search needs)
 
 pub put-counts-spec : {M : Type 1} → statement M
 put-counts-spec =

@@ -2,7 +2,7 @@
 -- Assumes nothing.
 use borrow.Author.Needs.{needs}
 use Rattle.report.specs.Text.{decimal}
-use Rattle.report.proofs.Texts.{put-then}
+use Rattle.report.proofs.Texts.{printed-then}
 use Rattle.report.proofs.text.put_field.Statement.{statement}
 use Rattle.report.proofs.text.put_field.Tie as tie
 
@@ -20,7 +20,7 @@ returns c =
     let number = c .before .before in
     let text = number .before .before .before .before in
     let a = text .before .before .before .before .args in
-    (put-then (a .word .now) (decimal (a .n)) (text .put-text .ensures) (number .put-number .ensures .0), search needs)
+    (printed-then (a .word .now) (decimal (a .n)) (text .put-text .ensures) (number .put-number .ensures .0), search needs)
 
 pub put-field-spec : {M : Type 1} → statement M
 put-field-spec = tie.close (tie.spec put-text-requires put-number-requires same-length returns)

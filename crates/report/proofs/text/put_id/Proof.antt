@@ -2,7 +2,7 @@
 -- Assumes nothing.
 use borrow.Author.Needs.{needs}
 use Rattle.report.specs.Text.{ascii, decimal}
-use Rattle.report.proofs.Texts.{put-then}
+use Rattle.report.proofs.Texts.{printed-then}
 use Rattle.report.proofs.text.put_id.Statement.{statement}
 use Rattle.report.proofs.text.put_id.Tie as tie
 
@@ -23,7 +23,7 @@ returns c =
     let end = c .before .before in
     let number = end .before .before .before .before .before in
     let a = number .before .before .before .args in
-    (put-then (decimal (a .id)) (ascii "\n") (number .put-number .ensures .0) (end .put-text .ensures), search needs)
+    (printed-then (decimal (a .id)) (ascii "\n") (number .put-number .ensures .0) (end .put-text .ensures), search needs)
 
 pub put-id-spec : {M : Type 1} → statement M
 put-id-spec =

@@ -6,7 +6,7 @@ use Prim.Native.Nat.{ℕ, _≤_}
 use native.Mathlib.Omega.{arith}
 use lib.ListN.{take}
 use borrow.Author.Needs.{needs}
-use Rattle.report.specs.Text.{Put, decimal}
+use Rattle.report.specs.Text.{Printed, decimal}
 use Rattle.report.proofs.Texts.{decimal-digits, fewest-few}
 use Rattle.report.proofs.text.put_number.Statement.{statement}
 use Rattle.report.proofs.text.put_number.Tie as tie
@@ -37,7 +37,7 @@ returns c =
     let a = made .before .before .before .args in
     let few : d .result ≤ 20 = fewest-few (d .result) (a .n) (d .ensures .1 .0) (omega arith) in
     let e : take (d .result) (d .last .1 .0) ≡ decimal (a .n) = d .ensures .1 .1 ∙ sym (decimal-digits (d .result) (a .n) (d .ensures .1 .0) few) in
-    (subst (λ (l : List ℕ). Put (a .out .now) (a .at) l (p .last .0) (p .result)) e (p .ensures), omega (arith, p .ensures .ends, d .ensures .0 .1))
+    (subst (λ (l : List ℕ). Printed (a .out .now) (a .at) l (p .last .0) (p .result)) e (p .ensures), omega (arith, p .ensures .ends, d .ensures .0 .1))
 
 pub put-number-spec : {M : Type 1} → statement M
 put-number-spec =

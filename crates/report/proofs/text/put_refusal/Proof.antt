@@ -1,9 +1,13 @@
 -- `report::text::put_refusal` meets its contract.
 -- Assumes nothing.
+use Prim.Native.Nat.{_≤_}
+use native.Mathlib.Omega.{arith}
+use lib.ListN.{length}
 use borrow.Author.Needs.{needs}
+use Rattle.io.proofs.Counting.{front}
 use Rattle.report.specs.Report.{field}
 use Rattle.report.specs.Text.{ascii}
-use Rattle.report.proofs.Texts.{put-then}
+use Rattle.report.proofs.Texts.{printed-then}
 use Rattle.report.proofs.text.put_refusal.Statement.{statement}
 use Rattle.report.proofs.text.put_refusal.Tie as tie
 
@@ -30,7 +34,9 @@ returns c =
     let end = c .before .before in
     let number = end .before .before .before .before .before in
     let a = number .before .before .before .before .args in
-    (put-then (field "refused " (a .x .no)) (ascii "\n") (number .put-field .ensures .0) (end .put-text .ensures), search needs)
+    let p = end .put-text in
+    let l : p .result ≤ length (p .last .0) = omega arith in
+    (printed-then (field "refused " (a .x .no)) (ascii "\n") (number .put-field .ensures .0) (p .ensures), (l, front (p .result) (p .last .0) l))
 
 pub put-refusal-spec : {M : Type 1} → statement M
 put-refusal-spec =

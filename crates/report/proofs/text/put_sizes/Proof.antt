@@ -4,7 +4,7 @@ use mathlib.Core.List.{_++_}
 use borrow.Author.Needs.{needs}
 use Rattle.report.specs.Report.{field}
 use Rattle.report.specs.Text.{ascii}
-use Rattle.report.proofs.Texts.{put-then}
+use Rattle.report.proofs.Texts.{printed-then}
 use Rattle.report.proofs.text.put_sizes.Statement.{statement}
 use Rattle.report.proofs.text.put_sizes.Tie as tie
 
@@ -45,9 +45,9 @@ returns c =
     let nodes = field "nodes " (z .nodes) in
     let edges = field " edges " (z .edges) in
     let ports = field " ports " (z .ports) in
-    let two = put-then nodes edges (first .put-field .ensures .0) (second .put-field2 .ensures .0) in
-    let three = put-then (nodes ++ edges) ports two (third .put-field3 .ensures .0) in
-    (put-then (nodes ++ edges ++ ports) (ascii "\n") three (end .put-text .ensures), search needs)
+    let two = printed-then nodes edges (first .put-field .ensures .0) (second .put-field2 .ensures .0) in
+    let three = printed-then (nodes ++ edges) ports two (third .put-field3 .ensures .0) in
+    (printed-then (nodes ++ edges ++ ports) (ascii "\n") three (end .put-text .ensures), search needs)
 
 pub put-sizes-spec : {M : Type 1} → statement M
 put-sizes-spec =

@@ -1,0 +1,42 @@
+-- What the choice promises, as statements: of arcs, of a graph, and of an answer's bytes.
+-- Assumes nothing.
+use mathlib.Core.Path.{_≡_}
+use mathlib.Core.Bool.{Bool}
+use mathlib.Core.List.{List, []}
+use mathlib.Core.Logic.{_↔_}
+use Prim.Native.Nat.{ℕ, zero, _≤_, _<_}
+use lib.Dec.{T}
+use lib.ListN.{length}
+use Rattle.le.specs.Le.{Below, numbers, row}
+use Rattle.graph.specs.Graph.{Graph}
+use Rattle.graph.specs.Answer.{answered, Result}
+use Rattle.graph.specs.Versions.{Stored, read}
+use Rattle.choice.specs.Arcs.{Arc, In, Leads, Set, has, Stable, Cycle, NoCycle}
+use Rattle.choice.specs.Choice.{Ascends}
+use Rattle.choice.specs.Drawing.{arcs, chosen}
+
+-- all arcs join vertices below n
+abbrev pub Bounded : List Arc → ℕ → Type 0
+Bounded arcs n = (u v : ℕ) → Leads arcs u v → (u < n) × (v < n)
+
+-- each stable set that is not empty has a vertex that may be chosen
+abbrev pub Offers : List Arc → (ℕ → Bool) → Type 0
+Offers arcs may = (S : Set) → Stable arcs S → (v : ℕ) → T (has S v) → (u : ℕ) × T (has S u) × T (may u)
+
+-- a list of nodes that breaks every directed cycle of a graph, as the choice's does
+pub record Breaks (g : Graph) (list : List ℕ) : Type 0 where
+  pub ascends : Ascends list
+  pub nodes : Below (length (g .labels)) list
+  pub meets : (c : List ℕ) → Cycle (arcs g) c → (v : ℕ) × In v c × In v list
+  pub none : (list ≡ []) ↔ NoCycle (arcs g)
+
+-- the answer is the choice of the stored graph: its bytes are read back as the chosen ids, which break every cycle
+pub record CutOf (b : List ℕ) (room : ℕ) (s : Stored) (c : Result) : Type 0 where
+  pub stored : read b ≡ answered s
+  pub pairless : length (s .graph .pairs) ≡ zero
+  pub written : c .bytes ≡ row (s .format .width) (chosen (s .graph) .ids)
+  pub count : c .a ≡ length (chosen (s .graph) .ids)
+  pub free : c .b ≡ chosen (s .graph) .free
+  pub fits : length (c .bytes) ≤ room
+  pub back : numbers (s .format .width) (c .a) (c .bytes) ≡ chosen (s .graph) .ids
+  pub breaks : Breaks (s .graph) (numbers (s .format .width) (c .a) (c .bytes))

@@ -1,0 +1,194 @@
+-- The ways out of the two calls: what a list of ids is, and from the value met in code to what the call gives.
+-- Assumes nothing.
+use mathlib.Core.Bool.{Bool, true, false}
+use mathlib.Core.List.{List}
+use mathlib.Core.Path.{_≡_, refl, sym, ap, _∙_, subst}
+use Prim.Native.Nat.{ℕ, _*_, _/_, _≤_}
+use native.Mathlib.Nat.{div-add-mod'}
+use native.Mathlib.Omega.{arith}
+use lib.Dec.{leb}
+use lib.ListN.{length, drop, length-map}
+use lib.Seq.{sets}
+use borrow.Author.Tests.{leb-true}
+use Rattle.le.specs.Le.{Below, Wide, numbers, row}
+use Rattle.le.specs.Rows.{Holds, rowAt, placeIn, span, puts}
+use Rattle.le.proofs.Numbers.{length-numbers, length-row}
+use Rattle.graph.specs.Answer as answer
+use Rattle.graph.specs.Answer.{Answer, refused, answered, Result, writing, lay, _else_, _>>=_, _>>_}
+use Rattle.graph.specs.Calls.{idList, fit, made, deleteEdgesStep, nodesDeleted}
+use Rattle.graph.specs.Delete.{remaining, deleteEdges, withoutNodes, deleteNodes, whereTo, nodeMap}
+use Rattle.graph.specs.Build.{withEdges}
+use Rattle.graph.specs.Graph.{Graph, Format}
+use Rattle.graph.specs.Lists.{among, range}
+use Rattle.graph.specs.Versions.{read, store, fitting}
+use Rattle.graph.specs.Form.{encode}
+use Rattle.graph.proofs.Lists.{below-true, length-range}
+use Rattle.graph.proofs.Places.{sets-lay}
+use Rattle.graph.proofs.Steps.{never, same-answer, same-refusal, passed, came, stops, goes}
+use Rattle.form.specs.Form.{meantBy, counted, tested, Gives, GivesMap}
+use Rattle.form.specs.Stored.{graphOf, formatOf, Stored}
+use Rattle.form.specs.declared.Sizes.{Sizes}
+use Rattle.form.specs.declared.Outcome.the-variants as call
+use Rattle.form.specs.declared.Refusal.{Refusal}
+use Rattle.form.specs.declared.Step.the-variants as step
+use Rattle.form.specs.declared.Step.{Step}
+use Rattle.form.proofs.Answers.{list-answered, test-refused, test-answered, gives-map-refused}
+use Rattle.delete.specs.Marks.{marked, unmarkedEdges, mapOf, placesOf}
+
+pub room-enough : (needed lent : ℕ) (r : Step) → r ≡ tested (leb needed lent else 10) → (n : ℕ) → r ≡ step.Number n → needed ≤ lent
+unfolding _else_
+room-enough needed lent r is n e = go (leb needed lent) refl (test-answered (leb needed lent else 10) r is n e .1)
+  where
+    go : (c : Bool) {x : Unit {0}} → leb needed lent ≡ c → (c else 10) ≡ answered x → needed ≤ lent
+    go true p q = leb-true needed lent p
+    go false p q = absurd (never q)
+
+-- the refusal that code passes on
+pub passes : {a : Answer Result} {old : List ℕ} {q x : Refusal} → q ≡ x → Gives a (call.Refused x) old old → Gives a (call.Refused q) old old
+passes {a} {old} e h = subst (λ (k : Refusal). Gives a (call.Refused k) old old) (sym e) h
+
+-- ---- a list of ids
+
+-- n ids, all below the count
+pub record Listed (f : Format) (count width : ℕ) (b : List ℕ) (n : ℕ) : Type 0 where
+  pub is : idList f count b ≡ answered (span b (rowAt 0 width) 0 n)
+  pub held : Holds b (rowAt 0 width) n
+  pub below : Below count (span b (rowAt 0 width) 0 n)
+
+pub listed : (f : Format) (count width : ℕ) (b : List ℕ) → Wide width → f .width ≡ width → (r : Step) → r ≡ counted (idList f count b) → (n : ℕ) → r ≡ step.Number n
+    → Listed f count width b n
+unfolding idList span
+listed f count width b wide w r is n e =
+    let t = list-answered (idList f count b) r is n e in
+    let p = passed _ 7 _ (t .1) in
+    let q = passed _ 7 _ (p .1) in
+    let many : n ≡ length b / f .width = t .2 ∙ ap length (sym (same-answer (q .1))) ∙ length-numbers (f .width) (length b / f .width) b in
+    let start : 0 ≡ placeIn (rowAt 0 width) 0 = omega arith in
+    let all : numbers (f .width) (length b / f .width) b ≡ numbers width n (drop (placeIn (rowAt 0 width) 0) b) = λ i. numbers (w i) (sym many i) (drop (start i) b) in
+    let here : n ≡ length b / width = many ∙ ap (λ (k : ℕ). length b / k) w in
+    record {
+      is = t .1 ∙ ap answered (sym (same-answer (q .1)) ∙ all);
+      held = record { wide = wide; inside = rw here (omega (arith, div-add-mod' (length b) width)) };
+      below = subst (Below count) all (below-true count (numbers (f .width) (length b / f .width) b) (q .0));
+    }
+
+-- ---- deleting edges
+
+pub edges-stop : (f : Format) (ids : List ℕ) (g : Graph) (x : Refusal) → idList f (length (g .edges)) ids ≡ refused (meantBy x) → deleteEdgesStep f ids g ≡ refused (meantBy x)
+unfolding deleteEdgesStep
+edges-stop f ids g x e = stops _ e
+
+pub edges-next : (f : Format) (ids : List ℕ) (g : Graph) (list : List ℕ) → idList f (length (g .edges)) ids ≡ answered list
+    → deleteEdgesStep f ids g ≡ answered (record { graph = deleteEdges list g; id = 0 })
+unfolding deleteEdgesStep
+edges-next f ids g list e = goes _ e
+
+-- marked or listed is the same
+pub unmarked-deleted : (room : List ℕ) (n : ℕ) (list : List ℕ) (g : Graph) → marked room n ≡ among list → unmarkedEdges room n g ≡ deleteEdges list g
+unfolding deleteEdges
+unmarked-deleted room n list g e = ap (λ (goes : ℕ → Bool). withEdges (remaining goes 0 (g .edges)) g) e
+
+-- ---- deleting nodes
+
+-- marked or listed is the same
+pub nodes-deleted : (room : List ℕ) (n : ℕ) (list : List ℕ) (g : Graph) → marked room n ≡ among list → withoutNodes (marked room n) g ≡ deleteNodes list g
+unfolding deleteNodes
+nodes-deleted room n list g e = ap (λ (goes : ℕ → Bool). withoutNodes goes g) e
+
+pub passes-map : {a : Answer Result} {old oldMap : List ℕ} {q x : Refusal} → q ≡ x → a ≡ refused (meantBy x) → GivesMap a (call.Refused q) old old oldMap oldMap
+passes-map {a} {old} {oldMap} {q} {x} e h = subst (λ (k : Refusal). GivesMap a (call.Refused k) old old oldMap oldMap) (sym e) (gives-map-refused x old oldMap h)
+
+-- two steps that are also another call's
+module _ {A B C D : Type 0} (m : Answer A) (next : A → Answer B) (f : B → C) (then : B → Answer D) where
+  two-stop : (r : answer.Refusal) → (m >>= λ a. next a >>= λ b. answered (f b)) ≡ refused r → (m >>= λ a. next a >>= then) ≡ refused r
+  unfolding _>>=_
+  two-stop r e = outer m e
+    where
+      inner : (k : Answer B) → (k >>= λ b. answered (f b)) ≡ refused r → (k >>= then) ≡ refused r
+      inner (refused x) e = ap refused (same-refusal e)
+      inner (answered b) e = absurd (never (sym e))
+
+      outer : (k : Answer A) → (k >>= λ a. next a >>= λ b. answered (f b)) ≡ refused r → (k >>= λ a. next a >>= then) ≡ refused r
+      outer (refused x) e = ap refused (same-refusal e)
+      outer (answered a) e = inner (next a) e
+
+  two-go : (c : C) → (m >>= λ a. next a >>= λ b. answered (f b)) ≡ answered c → (b : B) × (f b ≡ c) × ((m >>= λ a. next a >>= then) ≡ then b)
+  two-go c e =
+      let p = came m (λ a. next a >>= λ b. answered (f b)) e in
+      let q = came (next (p .0)) (λ b. answered (f b)) (p .2) in
+      (q .0, same-answer (q .2), goes (λ a. next a >>= then) (p .1) ∙ goes then (q .1))
+
+fit-stop : (room : ℕ) (bytes : List ℕ) (r : answer.Refusal) → (leb (length bytes) room else 10) ≡ refused r → fit room bytes ≡ refused r
+unfolding fit _>>_
+fit-stop room bytes r e = rw e
+
+fit-go : (room : ℕ) (bytes : List ℕ) (x : Unit {0}) → (leb (length bytes) room else 10) ≡ answered x → fit room bytes ≡ answered bytes
+unfolding fit _>>_
+fit-go room bytes x e = rw e
+
+module _ (b ids : List ℕ) (room mapRoom : ℕ) where
+  pub nodes-unread : (r : answer.Refusal) → read b ≡ refused r → nodesDeleted b ids room mapRoom ≡ refused r
+  unfolding nodesDeleted
+  nodes-unread r e = stops _ e
+
+  module _ {z : Sizes} (s : Stored b z) where
+    same-list : idList (formatOf b) (length (graphOf b .labels)) ids ≡ idList (formatOf b) (z .nodes) ids
+    same-list = ap (λ (y : Sizes). idList (formatOf b) (y .nodes) ids) (sym (s .sizes))
+
+    pub nodes-unlisted : (r : answer.Refusal) → idList (formatOf b) (z .nodes) ids ≡ refused r → nodesDeleted b ids room mapRoom ≡ refused r
+    unfolding nodesDeleted
+    nodes-unlisted r e = goes _ (s .read-as) ∙ stops _ (same-list ∙ e)
+
+    module _ (list : List ℕ) (is : idList (formatOf b) (z .nodes) ids ≡ answered list) where
+      abbrev mapped : List ℕ
+      mapped = row (formatOf b .width) (nodeMap (formatOf b) list (graphOf b))
+
+      -- after the list: the form, and then the map
+      abbrev onward : List ℕ → Answer Result
+      onward form = fit mapRoom mapped >>= λ map. answered (record { a = length form; b = length (graphOf b .labels); bytes = form; map = map })
+
+      abbrev graph : Graph
+      graph = deleteNodes list (graphOf b)
+
+      reached : nodesDeleted b ids room mapRoom ≡ (store graph >>= λ form. fit room form >>= onward)
+      unfolding nodesDeleted
+      reached = goes _ (s .read-as) ∙ goes _ (same-list ∙ is)
+
+      pub nodes-refused : (r : answer.Refusal) → made room (record { graph = graph; id = 0 }) ≡ refused r → nodesDeleted b ids room mapRoom ≡ refused r
+      unfolding made
+      nodes-refused r e = reached ∙ two-stop (store graph) (fit room) (λ (form : List ℕ). writing form 0) onward r e
+
+      map-long : length mapped ≡ z .nodes * z .width
+      unfolding nodeMap
+      map-long =
+          length-row (formatOf b .width) (nodeMap (formatOf b) list (graphOf b))
+          ∙ ap (λ (n : ℕ). n * formatOf b .width) (length-map (range 0 (length (graphOf b .labels))) (whereTo (formatOf b) (among list)) ∙ length-range 0 (length (graphOf b .labels)))
+          ∙ ap (λ (y : Sizes). y .nodes * y .width) (sym (s .sizes))
+
+      abbrev form : List ℕ
+      form = encode (fitting graph) graph
+
+      module _ (makes : made room (record { graph = graph; id = 0 }) ≡ answered (writing form 0)) (r : Step) (fits : r ≡ tested (leb (z .nodes * z .width) mapRoom else 10)) where
+        formed : nodesDeleted b ids room mapRoom ≡ onward form
+        unfolding made
+        formed =
+            let t = two-go (store graph) (fit room) (λ (form : List ℕ). writing form 0) onward (writing form 0) makes in
+            reached ∙ t .2 ∙ ap onward (ap (λ (m : Result). m .bytes) (t .1))
+
+        pub nodes-no-map : (q : Refusal) → r ≡ step.Refused q → nodesDeleted b ids room mapRoom ≡ refused (meantBy q)
+        nodes-no-map q e =
+            formed ∙ stops _ (fit-stop mapRoom mapped (meantBy q) (ap (λ (n : ℕ). leb n mapRoom else 10) map-long ∙ test-refused _ r fits q e))
+
+        pub nodes-done : (n : ℕ) → r ≡ step.Number n → nodesDeleted b ids room mapRoom
+            ≡ answered (record { a = length form; b = length (graphOf b .labels); bytes = form; map = mapped })
+        nodes-done n e =
+            let t = test-answered _ r fits n e in
+            formed ∙ goes _ (fit-go mapRoom mapped (t .0) (ap (λ (n : ℕ). leb n mapRoom else 10) map-long ∙ t .1))
+
+      -- the map that was put is the answered one
+      pub map-put : (room old : List ℕ) → marked room (z .nodes) ≡ among list → z .nodes * z .width ≤ length old
+          → puts old (mapOf z) 0 (placesOf (z .width) (marked room (z .nodes)) (z .nodes)) ≡ lay mapped old
+      unfolding nodeMap puts
+      map-put room old e l =
+          let start : placeIn (mapOf z) 0 ≡ 0 = omega arith in
+          (λ i. sets old (start i) (row (s .sizes i .width) (placesOf (s .sizes i .width) (e i) (s .sizes i .nodes)))) ∙ sets-lay mapped old (rw map-long l)

@@ -1,0 +1,144 @@
+-- The parts of a result: where they are copied from, the room that they have, and the form that they make.
+-- Assumes nothing.
+use mathlib.Core.Bool.{Bool, true, false, cond}
+use mathlib.Core.List.{List, [], _∷_, _++_, map}
+use mathlib.Core.Path.{_≡_, refl, sym, ap, _∙_, subst}
+use Prim.Native.Nat.{ℕ, zero, suc, _+_, _*_, _-_, _^_, _≤_, _<_}
+use native.Mathlib.Nat.{add-zero, zero-add, not-suc-le-zero, le-of-suc-le-suc}
+use native.Mathlib.Omega.{arith}
+use lib.ListN.{length, getD, drop, length-append, length-map}
+use lib.Seq.{sets}
+use Rattle.le.specs.Le.{Below, row, numberAt}
+use Rattle.le.specs.Rows.{Holds, placeIn, entry, span, puts}
+use Rattle.le.specs.declared.Row.{Row}
+use Rattle.graph.specs.Delete.{remaining, newId, renamed, renamedEdge, renamedPairs}
+use Rattle.graph.specs.Form.{edgeRow}
+use Rattle.graph.specs.Graph.{Edge, Graph, Format}
+use Rattle.graph.specs.Lists.{joined, flat, paired, range}
+use Rattle.form.specs.Form.{sizesOf, labelsOf, bodyOf, bodySize, listsFrom}
+use Rattle.form.specs.Stored.{graphOf, Stored}
+use Rattle.form.specs.declared.Sizes.{Sizes}
+use Rattle.write.specs.Write.{headed, drawn, Put, Room}
+use Rattle.graph.proofs.Kept.{new-id-le}
+use Rattle.graph.proofs.Lists.{length-range}
+use Rattle.graph.proofs.WriteRead.{paired-flat}
+use Rattle.graph.proofs.Rows.{length-label-row, length-body}
+use Rattle.form.proofs.Stored.{stored-rows}
+use Rattle.le.proofs.Numbers.{below-each, below-widen, length-row, number-at}
+use Rattle.le.proofs.Rows.{length-span, span-append}
+use Rattle.le.proofs.Stores.{sets-front}
+use Rattle.delete.specs.Marks.{mapOf, placesOf}
+use Rattle.delete.proofs.Grows.{renamed-append}
+
+pub at-row : {b : List ℕ} {r s : Row} {n : ℕ} → r ≡ s → Holds b s n → Holds b r n
+at-row {b} {n = n} e h = subst (λ (r : Row). Holds b r n) (sym e) h
+
+-- a part copied, of which it is known what it holds
+pub copied : (b : List ℕ) (j n : ℕ) {out new : List ℕ} {to from row : Row} {k next : ℕ} {xs : List ℕ} → new ≡ puts out to k (span b from j n) → from ≡ row → span b row j n ≡ xs
+    → next ≡ k + n → Put out to k xs new next
+copied b j n {out} {to = to} {row = row} {k = k} h e is past = record {
+  stored = h ∙ ap (λ (r : Row). puts out to k (span b r j n)) e ∙ ap (puts out to k) is;
+  next = past ∙ ap (λ (m : ℕ). k + m) (sym (length-span b row j n) ∙ ap length is);
+}
+
+-- the header, all labels, and all counts and ids
+pub drawn-by : (old : List ℕ) (y : Sizes) {mid new : List ℕ} {r q : Row} {ls ns : List ℕ} {j i : ℕ} → r ≡ labelsOf y → q ≡ bodyOf y → Put (headed old y) r 0 ls mid j
+    → Put mid q 0 ns new i → new ≡ drawn old y ls ns
+unfolding drawn
+drawn-by old y {ls = ls} {ns = ns} a b p q = q .stored ∙ (λ i. puts (p .stored i) (b i) 0 ns) ∙ ap (λ (r : Row). puts (puts (headed old y) r 0 ls) (bodyOf y) 0 ns) a
+
+module _ {out : List ℕ} {y : Sizes} (room : Room out y) (f : Format) (h : Graph) (is : y ≡ sizesOf f h) where
+  pub labels-room : Holds out (labelsOf y) (length (h .labels) + length (map (λ (e : Edge). e .label) (h .edges)))
+  labels-room =
+      subst (Holds out (labelsOf y)) (ap (λ (y : Sizes). y .nodes + y .edges) is ∙ sym (length-label-row h) ∙ length-append (h .labels) _) (room .labels)
+
+  pub body-room : Holds out (bodyOf y) (length (joined edgeRow (h .edges)) + length (h .sources ++ (h .targets ++ flat (h .pairs))))
+  body-room = subst (Holds out (bodyOf y)) (ap bodySize is ∙ sym (length-body h) ∙ length-append (joined edgeRow (h .edges)) _) (room .body)
+
+-- ---- parts of what was read
+
+remaining-map : {A B : Type 0} (goes : ℕ → Bool) (f : A → B) (id : ℕ) (xs : List A) → remaining goes id (map f xs) ≡ map f (remaining goes id xs)
+remaining-map goes f id [] = refl
+remaining-map {A} {B} goes f id (x ∷ xs) = pick (goes id) (remaining-map goes f (suc id) xs)
+  where
+    pick : (c : Bool) → remaining goes (suc id) (map f xs) ≡ map f (remaining goes (suc id) xs)
+        → cond c (remaining goes (suc id) (map f xs)) (f x ∷ remaining goes (suc id) (map f xs)) ≡ map f (cond c (remaining goes (suc id) xs) (x ∷ remaining goes (suc id) xs))
+    pick true k = k
+    pick false k = ap (λ (r : List B). f x ∷ r) k
+
+module _ {b : List ℕ} {z : Sizes} (s : Stored b z) where
+  pub left-labels : (goes : ℕ → Bool) (r : Row) → r ≡ labelsOf z
+      → remaining goes 0 (span b r (z .nodes) (z .edges)) ≡ map (λ (e : Edge). e .label) (remaining goes 0 (graphOf b .edges))
+  left-labels goes r e =
+      ap (λ (r : Row). remaining goes 0 (span b r (z .nodes) (z .edges))) e ∙ ap (remaining goes 0) (stored-rows s .edge-labels)
+      ∙ remaining-map goes (λ (e : Edge). e .label) 0 (graphOf b .edges)
+
+  pub ids-there : span b (bodyOf z) (listsFrom z) (z .sources + z .targets) ≡ graphOf b .sources ++ graphOf b .targets
+  ids-there =
+      let h = stored-rows s in
+      span-append b (bodyOf z) (listsFrom z) (z .sources) (z .targets) ∙ (λ i. h .sources i ++ h .targets i)
+
+  pub lists-there : span b (bodyOf z) (listsFrom z) (z .sources + (z .targets + 2 * z .pairs)) ≡ graphOf b .sources ++ (graphOf b .targets ++ flat (graphOf b .pairs))
+  lists-there =
+      let h = stored-rows s in
+      let row = bodyOf z in
+      span-append b row (listsFrom z) (z .sources) (z .targets + 2 * z .pairs)
+      ∙ (λ i. h .sources i ++ (span-append b row (listsFrom z + z .sources) (z .targets) (2 * z .pairs) ∙ λ i. h .targets i ++ h .pairs i) i)
+
+-- a part of a row that is known, in that row
+pub at-span : {r row : Row} (b : List ℕ) (k n : ℕ) {xs : List ℕ} → r ≡ row → span b row k n ≡ xs → span b r k n ≡ xs
+at-span b k n e is = ap (λ (r : Row). span b r k n) e ∙ is
+
+pub span-known : (b : List ℕ) (r : Row) (k n : ℕ) {xs : List ℕ} {low high : ℕ} → span b r k n ≡ xs → Below low xs → low ≤ high → Below high (span b r k n)
+span-known b r k n {xs} {high = high} is h l = subst (Below high) (sym is) (below-widen xs l h)
+
+-- ---- parts that are left without the nodes that go
+
+module _ {b : List ℕ} {z : Sizes} (s : Stored b z) (goes : ℕ → Bool) where
+  pub edge-labels-kept : span b (labelsOf z) (z .nodes) (z .edges) ≡ map (λ (e : Edge). e .label) (map (renamedEdge goes) (graphOf b .edges))
+  edge-labels-kept = stored-rows s .edge-labels ∙ same (graphOf b .edges)
+    where
+      same : (es : List Edge) → map (λ (e : Edge). e .label) es ≡ map (λ (e : Edge). e .label) (map (renamedEdge goes) es)
+      same [] = refl
+      same (e ∷ es) = ap (λ (l : List ℕ). e .label ∷ l) (same es)
+
+  pub ids-moved : renamed goes (span b (bodyOf z) (listsFrom z) (z .sources + z .targets)) ≡ renamed goes (graphOf b .sources) ++ renamed goes (graphOf b .targets)
+  ids-moved = ap (renamed goes) (ids-there s) ∙ renamed-append goes (graphOf b .sources) (graphOf b .targets)
+
+  pub pairs-there : span b (bodyOf z) (listsFrom z + (z .sources + z .targets)) (2 * z .pairs) ≡ flat (graphOf b .pairs)
+  pairs-there =
+      let e : listsFrom z + (z .sources + z .targets) ≡ listsFrom z + z .sources + z .targets = omega arith in
+      ap (λ (k : ℕ). span b (bodyOf z) k (2 * z .pairs)) e ∙ stored-rows s .pairs
+
+  pub pairs-moved : {xs : List ℕ} → xs ≡ flat (graphOf b .pairs) → renamedPairs goes (paired xs) ≡ renamedPairs goes (graphOf b .pairs)
+  pairs-moved e = ap (λ (l : List ℕ). renamedPairs goes (paired l)) e ∙ ap (renamedPairs goes) (paired-flat (graphOf b .pairs))
+
+-- ---- the map, read back
+
+places-at : (at : ℕ → ℕ) (from n i : ℕ) → i < n → getD (map at (range from n)) i 0 ≡ at (from + i)
+places-at at from zero i h = absurd (not-suc-le-zero h)
+places-at at from (suc n) zero h = ap at (sym (add-zero from))
+places-at at from (suc n) (suc i) h =
+    let q : suc from + i ≡ from + suc i = omega arith in
+    places-at at (suc from) n i (le-of-suc-le-suc h) ∙ ap at q
+
+pub map-there : (z : Sizes) (goes : ℕ → Bool) (old : List ℕ) → Holds old (mapOf z) (z .nodes) → z .nodes < 256 ^ z .width → (i : ℕ) → i < z .nodes → goes i ≡ false
+    → entry (puts old (mapOf z) 0 (placesOf (z .width) goes (z .nodes))) (mapOf z) i ≡ newId goes i
+unfolding entry puts
+map-there z goes old room small i l stays =
+    let w = z .width in
+    let at : ℕ → ℕ = λ id. cond (goes id) (256 ^ w - 1) (newId goes id) in
+    let ns = placesOf w goes (z .nodes) in
+    let many : length ns ≡ z .nodes = length-map (range 0 (z .nodes)) at ∙ length-range 0 (z .nodes) in
+    let rest = drop (length (row w ns)) old in
+    let start : placeIn (mapOf z) 0 ≡ 0 = omega arith in
+    let front : sets old (placeIn (mapOf z) 0) (row w ns) ≡ row w ns ++ rest =
+    ap (λ (k : ℕ). sets old k (row w ns)) start ∙ sets-front old (row w ns) (rw (length-row w ns, many) (omega (arith, room .inside))) in
+    let each : (k : ℕ) → k < z .nodes → getD ns k 0 ≡ at k = λ k m. places-at at 0 (z .nodes) k m ∙ ap at (zero-add k) in
+    let below : Below (256 ^ w) ns = below-each (256 ^ w) ns (λ k m. rw (each k (omega arith)) (fits k (goes k) (omega arith))) in
+    ap (λ (b : List ℕ). numberAt w b (placeIn (mapOf z) i)) front ∙ number-at w i [] ns rest below (omega arith) ∙ each i l
+    ∙ ap (λ (c : Bool). cond c (256 ^ w - 1) (newId goes i)) stays
+  where
+    fits : (k : ℕ) (c : Bool) → k < z .nodes → cond c (256 ^ z .width - 1) (newId goes k) < 256 ^ z .width
+    fits k true m = omega arith
+    fits k false m = omega (arith, new-id-le goes k)

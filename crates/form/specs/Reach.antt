@@ -1,8 +1,0 @@
--- How far ids reach: the least bound that is above each of them.
--- Assumes nothing.
-use Prim.Native.Nat.{ℕ, suc, max}
-use mathlib.Core.List.{List, [], _∷_}
-
-abbrev pub reach : List ℕ → ℕ
-reach [] = 0
-reach (x ∷ xs) = max (suc x) (reach xs)

@@ -1,0 +1,7 @@
+-- How far ids reach, the ways out of each reader, and what a reader owns and how it is lent.
+mod Reach
+mod Small
+mod Edge
+mod Whole
+mod Held
+mod Lent

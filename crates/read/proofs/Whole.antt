@@ -1,0 +1,177 @@
+-- The ways out of reading lists and body, and what the values of code say of the answers that they stand for.
+-- Assumes nothing.
+use mathlib.Core.List.{List, _++_}
+use mathlib.Core.Path.{_≡_, refl, sym, ap, _∙_}
+use Prim.Native.Nat.{ℕ, _+_, _*_, _-_, _≤_, _<_, max}
+use native.Mathlib.Nat.{add-mul}
+use native.Mathlib.Omega.{arith}
+use lib.Dec.{leb}
+use lib.ListN.{length, drop, length-drop}
+use lib.Seq.{drop-drop}
+use borrow.Author.Tests.{le-leb, lt-leb}
+use Rattle.form.specs.Form.{refusalOf, meant, sized, countsOf, reading}
+use Rattle.form.specs.declared.Format as form
+use Rattle.read.specs.Steps.{coded, versioned, headed, measured, edgesStep}
+use Rattle.read.specs.declared.Versioned.the-variants as version
+use Rattle.read.specs.Reach.{reach}
+use Rattle.form.specs.declared.Reading.the-variants.{Sized, Refused}
+use Rattle.form.specs.declared.Refusal.{Refusal}
+use Rattle.form.specs.declared.Sizes.{Sizes}
+use Rattle.read.specs.declared.Edges.the-variants as edge
+use Rattle.read.specs.declared.Edges.{Edges}
+use Rattle.graph.specs.Answer as answer
+use Rattle.graph.specs.Answer.{Answer, refused, answered, refusal, _>>=_}
+use Rattle.graph.specs.Form.{headerBytes}
+use Rattle.graph.specs.Graph.{Edge, Graph, Counts, ids, edgeEntries, Format}
+use Rattle.graph.specs.Lists.{allBelow, flat, paired}
+use Rattle.graph.specs.Read.{readEdges, assembled, readLists, readBody}
+use Rattle.le.specs.Le.{numbers}
+use Rattle.graph.proofs.ReadWrite.{flat-paired}
+use Rattle.graph.proofs.Reading.{edges-rest}
+use Rattle.graph.proofs.Steps.{stops, goes}
+use Rattle.graph.proofs.Verdicts.{lists-5, lists-6, lists-0, labels-5, body-edges}
+use Rattle.le.proofs.Numbers.{length-numbers}
+use Rattle.le.proofs.Rows.{numbers-append}
+use Rattle.read.proofs.Reach.{reach-append, below-reach}
+
+-- ---- after the last edge
+
+module _ (f : Format) (b : List ℕ) (at : ℕ) (z : Sizes) (ports bound : ℕ) (body : List ℕ) (edges : List Edge)
+    (is-edges : length edges ≡ z .edges) (is-ports : length (edgeEntries edges) ≡ ports) (is-bound : reach (edgeEntries edges) ≡ bound) where
+  pub other-length : (length b - at ≡ (z .sources + (z .targets + 2 * z .pairs)) * f .width → ⊥)
+      → Refused (refusalOf (refusal 5)) ≡ measured (f .width) (readLists f (countsOf z) body edges (drop at b))
+  other-length h = ap (measured (f .width)) (sym (lists-5 f (countsOf z) body edges (drop at b) (λ e. h (sym (length-drop at b) ∙ e))))
+
+  module _ (long : length b - at ≡ (z .sources + (z .targets + 2 * z .pairs)) * f .width) (most : ℕ)
+      (is-most : most ≡ max bound (reach (numbers (f .width) (z .sources + (z .targets + 2 * z .pairs)) (drop at b)))) where
+    there : length (drop at b) ≡ (z .sources + (z .targets + 2 * z .pairs)) * f .width
+    there = length-drop at b ∙ long
+
+    pair-row : List ℕ
+    pair-row = numbers (f .width) (2 * z .pairs) (drop ((z .sources + z .targets) * f .width) (drop at b))
+
+    pairs-are : (flat (paired pair-row) ≡ pair-row) × (length (paired pair-row) ≡ z .pairs)
+    unfolding pair-row
+    pairs-are = flat-paired (z .pairs) pair-row (length-numbers (f .width) (2 * z .pairs) (drop ((z .sources + z .targets) * f .width) (drop at b)))
+
+    -- the three lists are one row of ids
+    one-row : ids (assembled f (countsOf z) body edges (drop at b)) ≡ edgeEntries edges ++ numbers (f .width) (z .sources + (z .targets + 2 * z .pairs)) (drop at b)
+    unfolding pair-row
+    one-row =
+        rw (
+          pairs-are .0,
+          numbers-append (f .width) (z .sources) (z .targets + 2 * z .pairs) (drop at b),
+          numbers-append (f .width) (z .targets) (2 * z .pairs) (drop (z .sources * f .width) (drop at b)),
+          add-mul (z .sources) (z .targets) (f .width),
+          drop-drop (z .targets * f .width) (z .sources * f .width) (drop at b),
+        )
+
+    decided : allBelow (z .nodes) (ids (assembled f (countsOf z) body edges (drop at b))) ≡ leb most (z .nodes)
+    decided =
+        let row = numbers (f .width) (z .sources + (z .targets + 2 * z .pairs)) (drop at b) in
+        let same : reach (edgeEntries edges ++ row) ≡ most = omega (arith, reach-append (edgeEntries edges) row, is-bound, is-most) in
+        ap (allBelow (z .nodes)) one-row ∙ below-reach (z .nodes) (edgeEntries edges ++ row) ∙ ap (λ (m : ℕ). leb m (z .nodes)) same
+
+    pub foreign-id : z .nodes < most → Refused (refusalOf (refusal 6)) ≡ measured (f .width) (readLists f (countsOf z) body edges (drop at b))
+    foreign-id h = ap (measured (f .width)) (sym (lists-6 f (countsOf z) body edges (drop at b) there (decided ∙ lt-leb most (z .nodes) h)))
+
+    pub all-read : most ≤ z .nodes → Sized (sized (f .width) (countsOf z) ports) ≡ measured (f .width) (readLists f (countsOf z) body edges (drop at b))
+    unfolding pair-row
+    all-read h =
+        let e = ap (measured (f .width)) (lists-0 f (countsOf z) body edges (drop at b) there (decided ∙ le-leb most (z .nodes) h)) in
+        rw (e, length-numbers, length-numbers, length-numbers, is-edges, is-ports, pairs-are .1)
+
+-- ---- what a value in code says of the answer that it stands for
+
+same-refusal : {A : Type 0} {r : answer.Refusal} {x : Refusal} → x ≡ refusalOf r → _≡_ {A = Answer A} (refused r) (refused (refusal (x .no)))
+same-refusal e = sym (ap (λ (y : Refusal). refused (refusal (y .no))) e)
+
+abbrev Parsed : Type 0
+Parsed = List Edge × List ℕ
+
+edges-refused : (n : ℕ) (m : Answer Parsed) (x : Refusal) → edge.Refused x ≡ edgesStep n m → m ≡ refused (refusal (x .no))
+edges-refused n (refused r) x e = same-refusal (cc)
+edges-refused n (answered y) x e = let o : _≡_ {A = ℕ} 0 1 = cc in absurd (omega arith)
+
+edges-read : (n : ℕ) (m : Answer Parsed) (ports at bound : ℕ) → edge.Next ports at bound ≡ edgesStep n m
+    → (y : Parsed) × (m ≡ answered y) × (length (edgeEntries (y .0)) ≡ ports) × (at ≡ n - length (y .1)) × (reach (edgeEntries (y .0)) ≡ bound)
+edges-read n (refused r) ports at bound e = let o : _≡_ {A = ℕ} 0 1 = cc in absurd (omega arith)
+edges-read n (answered y) ports at bound e = (y, refl, cc, cc, cc)
+
+pub head-refused : (w : ℕ) (m : Answer Counts) (x : Refusal) → Refused x ≡ headed w m → m ≡ refused (refusal (x .no))
+head-refused w (refused r) x e = same-refusal (cc)
+head-refused w (answered c) x e = let o : _≡_ {A = ℕ} 0 1 = cc in absurd (omega arith)
+
+pub head-read : (w : ℕ) (m : Answer Counts) (z : Sizes) → Sized z ≡ headed w m → m ≡ answered (countsOf z)
+head-read w (refused r) z e = let o : _≡_ {A = ℕ} 0 1 = cc in absurd (omega arith)
+head-read w (answered c) z e = let same : sized w c 0 ≡ z = cc in ap (λ (y : Sizes). answered (countsOf y)) same
+
+pub version-refused : (m : Answer Format) (x : Refusal) → version.Refused x ≡ versioned m → m ≡ refused (refusal (x .no))
+version-refused (refused r) x e = same-refusal (cc)
+version-refused (answered f) x e = let o : _≡_ {A = ℕ} 0 1 = cc in absurd (omega arith)
+
+pub version-read : (m : Answer Format) (f : form.Format) → version.Is f ≡ versioned m → m ≡ answered (meant f)
+version-read (refused r) f e = let o : _≡_ {A = ℕ} 0 1 = cc in absurd (omega arith)
+version-read (answered g) f e = let same : coded g ≡ f = cc in ap (λ (k : form.Format). answered (meant k)) same
+
+-- a graph read in a version is measured in its width
+pub measured-in : (f : Format) (m : Answer Graph) → measured (f .width) m ≡ reading (m >>= λ g. answered (record { format = f; graph = g }))
+unfolding _>>=_
+measured-in f (refused r) = refl
+measured-in f (answered g) = refl
+
+-- ---- after the header
+
+module _ (f : Format) (b : List ℕ) (z : Sizes) where
+  pub no-labels : length b - headerBytes f < (z .nodes + z .edges) * 4 → Refused (refusalOf (refusal 5)) ≡ measured (f .width) (readBody f (countsOf z) (drop (headerBytes f) b))
+  no-labels h = ap (measured (f .width)) (sym (labels-5 f (countsOf z) (drop (headerBytes f) b) (rw length-drop h)))
+
+  module _ (fits : (z .nodes + z .edges) * 4 ≤ length b - headerBytes f) (whole : headerBytes f ≤ length b) (r : Edges)
+      (k : (labels : List ℕ) → length labels ≡ z .edges → r ≡ edgesStep (length b) (readEdges f 0 labels (drop (headerBytes f + (z .nodes + z .edges) * 4) b))) where
+    labels : List ℕ
+    labels = numbers 4 (z .edges) (drop (z .nodes * 4) (drop (headerBytes f) b))
+
+    parsed : Answer Parsed
+    parsed = readEdges f 0 labels (drop (headerBytes f + (z .nodes + z .edges) * 4) b)
+
+    is-parsed : r ≡ edgesStep (length b) parsed
+    unfolding labels parsed
+    is-parsed = k labels (length-numbers 4 (z .edges) (drop (z .nodes * 4) (drop (headerBytes f) b)))
+
+    is-body : readBody f (countsOf z) (drop (headerBytes f) b) ≡ (parsed >>= λ (x : Parsed). readLists f (countsOf z) (drop (headerBytes f) b) (x .0) (x .1))
+    unfolding labels parsed
+    is-body =
+        body-edges f (countsOf z) (drop (headerBytes f) b) (rw length-drop fits)
+        ∙ ap (λ (l : List ℕ). readEdges f 0 labels l >>= λ (x : Parsed). readLists f (countsOf z) (drop (headerBytes f) b) (x .0) (x .1))
+        (drop-drop ((z .nodes + z .edges) * 4) (headerBytes f) b)
+
+    pub edge-refused : (x : Refusal) → r ≡ edge.Refused x → Refused x ≡ measured (f .width) (readBody f (countsOf z) (drop (headerBytes f) b))
+    edge-refused x e = sym (ap (measured (f .width)) (is-body ∙ stops _ (edges-refused (length b) parsed x (sym e ∙ is-parsed))))
+
+    -- what the edges left to the lists
+    pub record Went (ports at bound : ℕ) : Type 0 where
+      pub edges : List Edge
+      pub is-edges : length edges ≡ z .edges
+      pub is-ports : length (edgeEntries edges) ≡ ports
+      pub is-bound : reach (edgeEntries edges) ≡ bound
+      pub inside : at ≤ length b
+      pub onward : readBody f (countsOf z) (drop (headerBytes f) b) ≡ readLists f (countsOf z) (drop (headerBytes f) b) edges (drop at b)
+
+    pub went : (ports at bound : ℕ) → r ≡ edge.Next ports at bound → Went ports at bound
+    unfolding labels parsed
+    went ports at bound e =
+        let y = edges-read (length b) parsed ports at bound (sym e ∙ is-parsed) in
+        let start = headerBytes f + (z .nodes + z .edges) * 4 in
+        let h = edges-rest f 0 labels (drop start b) (y .0 .0) (y .0 .1) (y .1) in
+        let is : y .0 .1 ≡ drop (start + h .place) b = h .is ∙ drop-drop (h .place) start b in
+        let long : length (y .0 .1) ≡ length b - (start + h .place) = ap length is ∙ length-drop (start + h .place) b in
+        let left : length (drop start b) ≡ length b - start = length-drop start b in
+        let at-place : at ≡ start + h .place = omega (arith, h .inside, y .3) in
+        record {
+          edges = y .0 .0;
+          is-edges = h .many ∙ length-numbers 4 (z .edges) (drop (z .nodes * 4) (drop (headerBytes f) b));
+          is-ports = y .2;
+          is-bound = y .4;
+          inside = omega (arith, h .inside);
+          onward = is-body ∙ goes _ (y .1) ∙ ap (readLists f (countsOf z) (drop (headerBytes f) b) (y .0 .0)) (is ∙ ap (λ (n : ℕ). drop n b) (sym at-place));
+        }

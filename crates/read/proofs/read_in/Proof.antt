@@ -1,0 +1,53 @@
+-- `read::read_in` meets its contract.
+-- Assumes nothing.
+use mathlib.Core.Path.{_≡_, sym, ap, _∙_}
+use denote.Ref.{now}
+use borrow.Author.Needs.{needs}
+use Rattle.form.specs.Form.{meant, countsOf}
+use Rattle.form.specs.declared.Sizes.{Sizes}
+use Rattle.graph.specs.Answer.{answered}
+use Rattle.graph.specs.Read.{readCounts, readIn}
+use Rattle.graph.proofs.Steps.{stops, goes}
+use Rattle.graph.proofs.Verdicts.{counts-passed}
+use Rattle.read.specs.Steps.{measured}
+use Rattle.read.proofs.Whole.{head-refused, head-read}
+use Rattle.read.proofs.read_in.Statement.{statement}
+use Rattle.read.proofs.read_in.Tie as tie
+
+-- the header's counts
+abbrev sizes : tie.After-head → Sizes
+sizes c = c .head .given .0 .0
+
+counts : (c : tie.After-head) → let a = c .before .before .before .before .args in readCounts (meant (a .f)) (now (a .s)) ≡ answered (countsOf (sizes c))
+counts c = head-read _ _ (sizes c) (sym (c .head .given .1) ∙ c .before .before .read-counts .ensures)
+
+read-counts-requires : tie.Need-read-counts-requires
+read-counts-requires c κs = search needs
+
+enum-known-head : tie.Need-enum-known-head
+enum-known-head c = search needs
+
+enum-told : tie.Need-enum-told
+enum-told c = search needs
+
+returns : tie.Need-returns
+unfolding readIn
+returns c =
+    let e = c .before .before in
+    let x = c .enum-told .given in
+    x .1 ∙ sym (ap (measured (e .before .before .args .f .width)) (stops _ (head-refused _ _ (x .0 .0) (sym (x .1) ∙ e .read-counts .ensures))))
+
+read-body-requires : tie.Need-read-body-requires
+read-body-requires c κs =
+    let s = c .before .before .before .before .before in
+    let p = counts-passed (meant (s .args .f)) (now (s .args .s)) (countsOf (sizes (c .before))) (counts (c .before)) in
+    (p .0, p .1, s .pre)
+
+returns-2 : tie.Need-returns-2
+unfolding readIn
+returns-2 c = c .read-body .ensures ∙ sym (ap (measured (c .before .before .before .before .before .before .args .f .width)) (goes _ (counts (c .before .before))))
+
+pub read-in-spec : {M : Type 1} → statement M
+read-in-spec =
+    tie.close
+    (tie.spec read-counts-requires enum-known-head enum-told returns read-body-requires returns-2)

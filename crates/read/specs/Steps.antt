@@ -1,0 +1,61 @@
+-- What the steps of reading answer: for each answer of a definition the value in code.
+-- Assumes nothing.
+use Prim.Native.Nat.{ℕ, _+_, _-_, max}
+use mathlib.Core.List.{List, _++_}
+use lib.ListN.{length}
+use Rattle.graph.specs.Graph as graph
+use Rattle.graph.specs.Graph.{Edge, Graph, Counts, counts, ports, edgeEntries}
+use Rattle.graph.specs.Answer.{Answer, refused, answered}
+use Rattle.form.specs.Form.{refusalOf, sized}
+use Rattle.form.specs.declared.Format.{Format}
+use Rattle.form.specs.declared.Reading.{Reading}
+use Rattle.form.specs.declared.Reading.the-variants as read
+use Rattle.read.specs.Reach.{reach}
+use Rattle.read.specs.declared.Versioned.{Versioned}
+use Rattle.read.specs.declared.Versioned.the-variants as version
+use Rattle.read.specs.declared.Edges.{Edges}
+use Rattle.read.specs.declared.Edges.the-variants as edges
+use Rattle.read.specs.declared.reader.Reader.{Reader}
+
+-- a version in code
+abbrev pub coded : graph.Format → Format
+coded f = record {
+  version = f .version;
+  width = f .width;
+  nodes = f .most .nodes;
+  edges = f .most .edges;
+  ports = f .mostPorts;
+  sources = f .most .sources;
+  targets = f .most .targets;
+  pairs = f .most .pairs;
+}
+
+-- the version of a number
+abbrev pub versioned : Answer graph.Format → Versioned
+versioned (refused r) = version.Refused (refusalOf r)
+versioned (answered f) = version.Is (coded f)
+
+-- a header read in a width: its counts, before any port is counted
+abbrev pub headed : ℕ → Answer Counts → Reading
+headed width (refused r) = read.Refused (refusalOf r)
+headed width (answered c) = read.Sized (sized width c 0)
+
+-- a graph read in a width: its sizes
+abbrev pub measured : ℕ → Answer Graph → Reading
+measured width (refused r) = read.Refused (refusalOf r)
+measured width (answered g) = read.Sized (sized width (counts g) (ports g))
+
+-- an edge read from n bytes, after edges of this port sum and ids of this reach: the sum with it, the place after it, and the reach
+abbrev pub edgeStep : ℕ → ℕ → ℕ → Answer (Edge × List ℕ) → Edges
+edgeStep n sum bound (refused r) = edges.Refused (refusalOf r)
+edgeStep n sum bound (answered x) =
+    edges.Next (sum + (length (x .0 .sources) + length (x .0 .targets))) (n - length (x .1)) (max bound (reach (x .0 .sources ++ x .0 .targets)))
+
+-- edges read: their port sum, the place after them, and the reach of their ids
+abbrev pub edgesStep : ℕ → Answer (List Edge × List ℕ) → Edges
+edgesStep n (refused r) = edges.Refused (refusalOf r)
+edgesStep n (answered x) = edges.Next (length (edgeEntries (x .0))) (n - length (x .1)) (reach (edgeEntries (x .0)))
+
+-- a reader this many bytes on
+abbrev pub past : ℕ → Reader → Reader
+past n r = record { src = r .src; at = r .at + n }

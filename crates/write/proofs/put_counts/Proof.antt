@@ -1,0 +1,45 @@
+-- `write::put_counts` meets its contract.
+-- Assumes nothing.
+use mathlib.Core.Path.{ap, _∙_}
+use mathlib.Core.List.{List, _∷_, []}
+use Prim.Native.Nat.{ℕ}
+use denote.Ref.{now}
+use borrow.Author.Needs.{needs}
+use Rattle.le.specs.Rows.{rowAt, puts}
+use Rattle.le.proofs.Rows.{puts-append}
+use Rattle.write.proofs.put_counts.Statement.{statement}
+use Rattle.write.proofs.put_counts.Tie as tie
+
+put-two-requires : tie.Need-put-two-requires
+put-two-requires c κs = search needs
+
+put-two-requires-2 : tie.Need-put-two-requires-2
+put-two-requires-2 c κs = search needs
+
+put-number-requires : tie.Need-put-number-requires
+put-number-requires c κs = search needs
+
+same-length : tie.Need-same-length
+same-length c = search needs
+
+returns : tie.Need-returns
+returns c =
+    let a = c .before .before .before .before .before .before .before .before .before .before .before .before .before .args in
+    let y = a .y in
+    let r = rowAt 5 (y .width) in
+    c .before .before .put-number .ensures
+    ∙ ap (λ (b : List ℕ). puts b r 4 (y .pairs ∷ []))
+    (c .before .before .before .before .before .before .put-two2 .ensures
+    ∙ ap (λ (b : List ℕ). puts b r 2 (y .sources ∷ y .targets ∷ [])) (c .before .before .before .before .before .before .before .before .before .before .put-two .ensures)
+    ∙ puts-append (now (a .out)) r 0 (y .nodes ∷ y .edges ∷ []) (y .sources ∷ y .targets ∷ []))
+    ∙ puts-append (now (a .out)) r 0 (y .nodes ∷ y .edges ∷ y .sources ∷ y .targets ∷ []) (y .pairs ∷ [])
+
+pub put-counts-spec : {M : Type 1} → statement M
+put-counts-spec =
+    tie.close
+    (tie.spec
+    put-two-requires
+    put-two-requires-2
+    put-number-requires
+    same-length
+    returns)
