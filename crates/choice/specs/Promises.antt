@@ -10,7 +10,7 @@ use lib.ListN.{length}
 use Rattle.le.specs.Le.{Below, numbers, row}
 use Rattle.graph.specs.Graph.{Graph}
 use Rattle.graph.specs.Answer.{answered, Result}
-use Rattle.graph.specs.Versions.{Stored, read}
+use Rattle.graph.specs.Versions.{StoredGraph, read}
 use Rattle.choice.specs.Arcs.{Arc, In, Leads, Set, has, Stable, Cycle, NoCycle}
 use Rattle.choice.specs.Choice.{Ascends}
 use Rattle.choice.specs.Drawing.{arcs, chosen}
@@ -31,7 +31,7 @@ pub record Breaks (g : Graph) (list : List ℕ) : Type 0 where
   pub none : (list ≡ []) ↔ NoCycle (arcs g)
 
 -- the answer is the choice of the stored graph: its bytes are read back as the chosen ids, which break every cycle
-pub record CutOf (b : List ℕ) (room : ℕ) (s : Stored) (c : Result) : Type 0 where
+pub record CutOf (b : List ℕ) (room : ℕ) (s : StoredGraph) (c : Result) : Type 0 where
   pub stored : read b ≡ answered s
   pub pairless : length (s .graph .pairs) ≡ zero
   pub written : c .bytes ≡ row (s .format .width) (chosen (s .graph) .ids)

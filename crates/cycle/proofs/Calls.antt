@@ -27,7 +27,7 @@ use Rattle.le.proofs.Numbers.{length-row}
 use Rattle.cycle.proofs.Flags.{flagged-chosen}
 
 -- the call once its graph was read and found to have no pairs
-abbrev pub listing : ℕ → versions.Stored → Graph → Answer Result
+abbrev pub listing : ℕ → versions.StoredGraph → Graph → Answer Result
 listing room s g = fit room (row (s .format .width) (chosen g .ids)) >>= λ list.
     answered (record { a = length (chosen g .ids); b = chosen g .free; bytes = list; map = [] })
 

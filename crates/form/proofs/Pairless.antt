@@ -24,14 +24,14 @@ use Rattle.form.proofs.Stored.{unread}
 use Rattle.graph.proofs.Steps.{same-answer, passed, stops, goes}
 
 -- what follows the work room's test
-abbrev onPairless : List ℕ → (versions.Stored → Graph → Answer Result) → Answer Result
+abbrev onPairless : List ℕ → (versions.StoredGraph → Graph → Answer Result) → Answer Result
 onPairless b next = read b >>= λ s. unpaired (s .graph) >>= λ g. next s g
 
 -- the refusal that code passes on is the one that it met
 passed-on : {a : Answer Result} (x q : Refusal) → a ≡ refused (meantBy x) → q ≡ x → a ≡ refused (meantBy q)
 passed-on x q e is = e ∙ ap (λ (y : Refusal). refused (meantBy y)) (sym is)
 
-module _ (b : List ℕ) (needed lent : ℕ) (next : versions.Stored → Graph → Answer Result) (room : Step) (is-room : room ≡ tested (leb needed lent else 10)) where
+module _ (b : List ℕ) (needed lent : ℕ) (next : versions.StoredGraph → Graph → Answer Result) (room : Step) (is-room : room ≡ tested (leb needed lent else 10)) where
   pub room-short : (x : Refusal) → room ≡ step.Refused x → (q : Refusal) → q ≡ refusalIn room → inWorkRoom needed lent (onPairless b next) ≡ refused (meantBy q)
   unfolding inWorkRoom _>>_
   room-short x e q is = passed-on x q (rw (test-refused (leb needed lent else 10) room is-room x e)) (is ∙ ap refusalIn e)

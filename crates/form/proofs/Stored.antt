@@ -1,21 +1,21 @@
 -- Bytes that were read: what stands in their rows, and at each edge of a walk.
 -- Assumes nothing.
-use mathlib.Core.List.{List, [], _∷_, _++_, map, append-nil, append-assoc}
+use mathlib.Core.List.{List, [], _++_, map, append-nil, append-assoc}
 use mathlib.Core.Logic.{inr}
 use mathlib.Core.Path.{_≡_, refl, sym, ap, _∙_, subst}
-use Prim.Native.Nat.{ℕ, _+_, _*_, _≤_, _<_, _^_}
+use Prim.Native.Nat.{ℕ, _+_, _*_, _≤_, _<_}
 use native.Mathlib.Nat.{zero-add, add-zero}
 use native.Mathlib.Omega.{arith}
 use lib.ListN.{length, length-map, length-append, getD, take, drop}
 use lib.Seq.{take-at, drop-at}
 use Rattle.le.specs.Le.{Below, numbers}
 use Rattle.le.specs.declared.Row.{Row}
-use Rattle.le.specs.Rows.{Holds, placeIn, entry, span}
+use Rattle.le.specs.Rows.{placeIn, entry, span}
 use Rattle.le.proofs.Numbers.{below-front, below-back}
-use Rattle.le.proofs.Rows.{wide-some, wide-low, holds-less, length-span, span-at, span-part}
+use Rattle.le.proofs.Rows.{wide-some, wide-low, holds-less, span-at, span-part}
 use Rattle.graph.specs.Answer.{Answer, refused, answered, reply}
 use Rattle.graph.specs.Build.{empty}
-use Rattle.graph.specs.Form.{encode, body, labelRow, edgeRow, edgeStart, noEdge, headerBytes, formBytes}
+use Rattle.graph.specs.Form.{encode, body, labelRow, edgeRow, edgeStart, noEdge, headerBytes}
 use Rattle.graph.specs.Graph.{Edge, Graph, counts, ports, form1, largest, WellFormed, Usable, Format, edgeEntries}
 use Rattle.graph.specs.Lists.{joined, flat}
 use Rattle.graph.specs.Versions as versions
@@ -38,7 +38,7 @@ module _ (b : List ℕ) (r : Reading) (is : r ≡ reading (read b)) where
   pub unread : (x : Refusal) → r ≡ Refused x → read b ≡ refused (meantBy x)
   unread x e = look (read b) refl
     where
-      look : (m : Answer versions.Stored) → read b ≡ m → read b ≡ refused (meantBy x)
+      look : (m : Answer versions.StoredGraph) → read b ≡ m → read b ≡ refused (meantBy x)
       look (refused n) p =
           let q : Refused x ≡ reading (refused n) = sym e ∙ is ∙ ap reading p in
           let same : x ≡ refusalOf n = cc in
@@ -51,22 +51,22 @@ module _ (b : List ℕ) (r : Reading) (is : r ≡ reading (read b)) where
   unfolding storedOf
   stored t z e = look (read b) refl
     where
-      look : (m : Answer versions.Stored) → read b ≡ m → Stored b z
+      look : (m : Answer versions.StoredGraph) → read b ≡ m → Stored b z
       look (refused n) p =
           let q : Sized z ≡ reading (refused n) = sym e ∙ is ∙ ap reading p in
           let o : _≡_ {A = ℕ} 0 1 = cc in absurd (omega arith)
       look (answered s) p =
           let q : Sized z ≡ reading (answered s) = sym e ∙ is ∙ ap reading p in
           let h = read-sound b s t p in
-          let same : s ≡ storedOf b = sym (ap (reply (record { format = form1; graph = empty }) (λ (s : versions.Stored). s)) p) in
+          let same : s ≡ storedOf b = sym (ap (reply (record { format = form1; graph = empty }) (λ (s : versions.StoredGraph). s)) p) in
           let size : z ≡ sizesOf (s .format) (s .graph) = cc in
           record {
             read-as = p ∙ ap answered same;
-            sizes = subst (λ (s : versions.Stored). z ≡ sizesOf (s .format) (s .graph)) same size;
-            usable = subst (λ (s : versions.Stored). Usable (s .format)) same (h .version .usable);
-            formed = subst (λ (s : versions.Stored). WellFormed (s .format) (s .graph)) same (h .formed);
-            within = subst (λ (s : versions.Stored). WellFormed largest (s .graph)) same (h .version .grows (s .graph) (h .formed));
-            whole = subst (λ (s : versions.Stored). encode (s .format) (s .graph) ≡ b) same (h .whole);
+            sizes = subst (λ (s : versions.StoredGraph). z ≡ sizesOf (s .format) (s .graph)) same size;
+            usable = subst (λ (s : versions.StoredGraph). Usable (s .format)) same (h .version .usable);
+            formed = subst (λ (s : versions.StoredGraph). WellFormed (s .format) (s .graph)) same (h .formed);
+            within = subst (λ (s : versions.StoredGraph). WellFormed largest (s .graph)) same (h .version .grows (s .graph) (h .formed));
+            whole = subst (λ (s : versions.StoredGraph). encode (s .format) (s .graph) ≡ b) same (h .whole);
           }
 
 -- ---- the rows

@@ -11,7 +11,7 @@ use Rattle.graph.specs.Graph as graph
 use Rattle.graph.specs.Graph.{Graph, Counts, ports}
 use Rattle.graph.specs.Answer as answer
 use Rattle.graph.specs.Answer.{Answer, refused, answered, Result, laid, laidMap}
-use Rattle.graph.specs.Versions.{Stored}
+use Rattle.graph.specs.Versions.{StoredGraph}
 use Rattle.form.specs.declared.Refusal.{Refusal}
 use Rattle.form.specs.declared.Format.{Format}
 use Rattle.form.specs.declared.Sizes.{Sizes}
@@ -103,7 +103,7 @@ abbrev pub sizesOf : graph.Format → Graph → Sizes
 sizesOf f g = sized (f .width) (graph.counts g) (ports g)
 
 -- a graph read: its sizes
-abbrev pub reading : Answer Stored → Reading
+abbrev pub reading : Answer StoredGraph → Reading
 reading (refused r) = read.Refused (refusalOf r)
 reading (answered s) = read.Sized (sizesOf (s .format) (s .graph))
 

@@ -1,6 +1,6 @@
 -- Bytes that were read: the graph that they are, its sizes, and what stands in their rows.
 -- Assumes nothing.
-use Prim.Native.Nat.{ℕ, _+_, _*_, _≤_, _<_}
+use Prim.Native.Nat.{ℕ, _+_, _*_}
 use mathlib.Core.Path.{_≡_}
 use mathlib.Core.List.{List, map}
 use lib.ListN.{length, getD}
@@ -17,7 +17,7 @@ use Rattle.form.specs.Form.{sizesOf, Low, labelsOf, bodyOf, bodySize, li
 use Rattle.form.specs.declared.Sizes.{Sizes}
 
 -- what bytes are read as; nothing in version 1 where they are refused
-unfoldable pub storedOf : List ℕ → versions.Stored
+unfoldable pub storedOf : List ℕ → versions.StoredGraph
 storedOf b = reply (record { format = form1; graph = empty }) (λ s. s) (read b)
 
 -- the graph that they are, and its version

@@ -2,18 +2,17 @@
 -- Assumes nothing.
 use mathlib.Core.Bool.{Bool, true, false, not, cond, _&&_}
 use mathlib.Core.List.{List, [], _∷_, _++_, map}
-use mathlib.Core.Path.{_≡_, refl, sym, ap, _∙_, subst}
+use mathlib.Core.Path.{_≡_, refl, sym, ap, subst}
 use Prim.Native.Nat.{ℕ, suc, _+_, _≤_}
 use native.Mathlib.Omega.{arith}
-use lib.Dec.{leb}
 use lib.ListN.{length, length-map, length-append}
 use Rattle.le.specs.Le.{Below}
 use Rattle.graph.specs.Answer.{Answer, refused, answered, refusal, Refusal, _else_, _>>=_, _>>_}
 use Rattle.graph.specs.Calls.{Next, idList, fit, made, onGraph, inWorkRoom, deleteEdgesStep, deleteEdgesCall, nodesDeleted, deleteNodesCall}
-use Rattle.graph.specs.Delete.{remaining, newId, renamed, renamedEdge, renamedPairs, deleteEdges, deleteNodes}
+use Rattle.graph.specs.Delete.{remaining, newId, renamed, renamedEdge, deleteEdges, deleteNodes}
 use Rattle.graph.specs.Graph.{Edge, Graph, edgeEntries, largest, WellFormed}
 use Rattle.graph.specs.Lists.{joined, keep, among}
-use Rattle.graph.specs.Versions.{Stored, read, store}
+use Rattle.graph.specs.Versions.{StoredGraph, read, store}
 use Rattle.graph.proofs.Kept.{delete-edges-proper, delete-nodes-proper}
 use Rattle.graph.proofs.Steps.{same-refusal, never, same-answer, came}
 use Rattle.graph.proofs.Versions.{read-sound, read-between, store-formed}
@@ -113,7 +112,7 @@ after-step (answered x) next h k = k x refl
 reads : (b : List ℕ) → NotNine (read b)
 reads b = record { other = λ e. let h = read-between b .number (refusal 9) e in omega (arith, h .1) }
 
-lists : (s : Stored) (count : ℕ) (b : List ℕ) → NotNine (idList (s .format) count b)
+lists : (s : StoredGraph) (count : ℕ) (b : List ℕ) → NotNine (idList (s .format) count b)
 unfolding idList
 lists s count b = after-test _ 7 _ (λ e. omega arith) (after-test _ 7 _ (λ e. omega arith) (answers _))
 
@@ -130,7 +129,7 @@ makes room x h = after-step _ _ (forms (x .graph) h) (λ form p. after-step _ _ 
 
 -- whatever they are given, neither call gives 9
 module _ (b list : List ℕ) (t : Below 256 b) (room workRoom : ℕ) where
-  within : (s : Stored) → read b ≡ answered s → WellFormed largest (s .graph)
+  within : (s : StoredGraph) → read b ≡ answered s → WellFormed largest (s .graph)
   within s p = let h = read-sound b s t p in h .version .grows (s .graph) (h .formed)
 
   pub delete-edges-no-9 : deleteEdgesCall b list room workRoom ≡ refused (refusal 9) → ⊥

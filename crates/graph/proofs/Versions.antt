@@ -1,5 +1,5 @@
 -- One form for one graph: what is read is stored as the same bytes, and what is stored is read as the same graph.
--- All is from the laws of any one version (ReadWrite, WriteRead); which versions there are is seen only where `formatOf` or `fittingSizes` is unfolded.
+-- All is from the laws of any one version (ReadWrite, WriteRead); which versions there are is seen only where `formatNumbered` or `fittingSizes` is unfolded.
 -- Assumes nothing.
 use mathlib.Core.Bool.{Bool, true, false, cond, and-eq-true-iff}
 use mathlib.Core.List.{List}
@@ -13,7 +13,7 @@ use Rattle.graph.specs.Answer.{refused, answered, refusal, _else_, _>>=_
 use Rattle.graph.specs.Form.{encode}
 use Rattle.graph.specs.Graph.{Graph, Counts, counts, ports, Format, form1, largest, countsFit, withinLimits, Proper, WellFormed, Usable}
 use Rattle.graph.specs.Read.{readVersion, readIn}
-use Rattle.graph.specs.Versions.{Stored, formatOf, fittingSizes, fitting, read, store}
+use Rattle.graph.specs.Versions.{StoredGraph, formatNumbered, fittingSizes, fitting, read, store}
 use Rattle.le.specs.Le.{Below}
 use Rattle.graph.proofs.Laws.{form1-usable, length-encode}
 use Rattle.graph.proofs.Reading.{Between, answer-between, refusal-between, step-between, version-between, in-between}
@@ -25,17 +25,17 @@ use Rattle.graph.proofs.WriteRead.{within-true, in-encode, version-enco
 
 -- a version that is there: it is found by its number, and what it holds is within the largest limits
 pub record Version (f : Format) : Type 0 where
-  pub found : formatOf (f .version) ≡ answered f
+  pub found : formatNumbered (f .version) ≡ answered f
   pub usable : Usable f
   pub grows : (g : Graph) → WellFormed f g → WellFormed largest g
 
 version1 : Version form1
-unfolding formatOf
+unfolding formatNumbered
 version1 = record { found = refl; usable = form1-usable; grows = λ g h. h }
 
 -- there is one
-only-version : (v : ℕ) (f : Format) → formatOf v ≡ answered f → (form1 ≡ f) × (v ≡ 1)
-unfolding formatOf
+only-version : (v : ℕ) (f : Format) → formatNumbered v ≡ answered f → (form1 ≡ f) × (v ≡ 1)
+unfolding formatNumbered
 only-version v f p = go (eqb v 1) refl p
   where
     go : (c : Bool) → eqb v 1 ≡ c → cond c (answered form1) (refused (refusal 3)) ≡ answered f → (form1 ≡ f) × (v ≡ 1)
@@ -43,7 +43,7 @@ only-version v f p = go (eqb v 1) refl p
     go false e q = absurd (never q)
 
 -- a number's version is there, and has that number
-pub version-known : (v : ℕ) (f : Format) → formatOf v ≡ answered f → Version f × (f .version ≡ v)
+pub version-known : (v : ℕ) (f : Format) → formatNumbered v ≡ answered f → Version f × (f .version ≡ v)
 version-known v f p =
     let q = only-version v f p in
     subst (λ (k : Format). Version k × (k .version ≡ v)) (q .0) (version1, sym (q .1))
@@ -56,7 +56,7 @@ pub fitting-version : (g : Graph) → Version (fitting g)
 fitting-version g = sizes-version (counts g) (ports g)
 
 -- the version of a graph that is read is the one that it fits
-known-fits : (v : ℕ) (f : Format) (g : Graph) → formatOf v ≡ answered f → fitting g ≡ f
+known-fits : (v : ℕ) (f : Format) (g : Graph) → formatNumbered v ≡ answered f → fitting g ≡ f
 unfolding fittingSizes
 known-fits v f g p = only-version v f p .0
 
@@ -79,23 +79,23 @@ fitting-formed g h = h
 -- ---- what is read
 
 -- bytes that are read: they are the form of a well-formed graph, in the version that it fits
-pub record StoredAs (b : List ℕ) (s : Stored) : Type 0 where
+pub record StoredAs (b : List ℕ) (s : StoredGraph) : Type 0 where
   pub version : Version (s .format)
   pub fits : fitting (s .graph) ≡ s .format
   pub whole : encode (s .format) (s .graph) ≡ b
   pub formed : WellFormed (s .format) (s .graph)
 
-pub read-sound : (b : List ℕ) (s : Stored) → Below 256 b → read b ≡ answered s → StoredAs b s
+pub read-sound : (b : List ℕ) (s : StoredGraph) → Below 256 b → read b ≡ answered s → StoredAs b s
 unfolding read
 read-sound b s t p =
     let p₁ = came (readVersion b) _ p in
-    let p₂ = came (formatOf (p₁ .0)) _ (p₁ .2) in
+    let p₂ = came (formatNumbered (p₁ .0)) _ (p₁ .2) in
     let f = p₂ .0 in
     let known = version-known (p₁ .0) f (p₂ .1) in
     let p₃ = came (readIn f b) _ (p₂ .2) in
     let g = p₃ .0 in
     let r = in-sound f b g t (p₁ .1 ∙ ap answered (sym (known .1))) (p₃ .1) in
-    subst (λ (s : Stored). StoredAs b s) (same-answer (p₃ .2))
+    subst (λ (s : StoredGraph). StoredAs b s) (same-answer (p₃ .2))
     (record {
       version = known .0;
       fits = known-fits (p₁ .0) f g (p₂ .1);
@@ -125,7 +125,7 @@ longest g h = rw length-encode (omega arith)
 -- ---- the round trips
 
 -- reading an accepted form and storing it gives the same bytes
-pub read-store : (b : List ℕ) (s : Stored) → Below 256 b → read b ≡ answered s → store (s .graph) ≡ answered b
+pub read-store : (b : List ℕ) (s : StoredGraph) → Below 256 b → read b ≡ answered s → store (s .graph) ≡ answered b
 read-store b s t p =
     let r = read-sound b s t p in
     store-formed (s .graph) (r .version .grows (s .graph) (r .formed)) ∙ ap answered (ap (λ (f : Format). encode f (s .graph)) (r .fits) ∙ r .whole)
@@ -145,17 +145,17 @@ store-read g b h p =
     subst (λ (k : List ℕ). read k ≡ answered (record { format = fitting g; graph = g })) (q .1) (read-encode g (q .0))
 
 -- two accepted forms of one graph are equal
-pub one-form : (a b : List ℕ) (s t : Stored) → Below 256 a → Below 256 b → read a ≡ answered s → read b ≡ answered t → s .graph ≡ t .graph → a ≡ b
+pub one-form : (a b : List ℕ) (s t : StoredGraph) → Below 256 a → Below 256 b → read a ≡ answered s → read b ≡ answered t → s .graph ≡ t .graph → a ≡ b
 one-form a b s t ha hb p q e = same-answer (sym (read-store a s ha p) ∙ ap store e ∙ read-store b t hb q)
 
 -- two graphs of one stored form are equal
 pub one-graph : (g h : Graph) (b : List ℕ) → Proper g → Proper h → store g ≡ answered b → store h ≡ answered b → g ≡ h
-one-graph g h b pg ph p q = ap (λ (s : Stored). s .graph) (same-answer (sym (store-read g b pg p) ∙ store-read h b ph q))
+one-graph g h b pg ph p q = ap (λ (s : StoredGraph). s .graph) (same-answer (sym (store-read g b pg p) ∙ store-read h b ph q))
 
 -- ---- the refusals of a read are 1 to 6
 
-format-between : (v : ℕ) → Between 1 6 (formatOf v)
-unfolding formatOf
+format-between : (v : ℕ) → Between 1 6 (formatNumbered v)
+unfolding formatNumbered
 format-between v = go (eqb v 1)
   where
     go : (c : Bool) → Between 1 6 (cond c (answered form1) (refused (refusal 3)))
@@ -166,4 +166,4 @@ pub read-between : (b : List ℕ) → Between 1 6 (read b)
 unfolding read
 read-between b =
     step-between (readVersion b) _ (version-between b)
-    (λ v. step-between (formatOf v) _ (format-between v) (λ f. step-between (readIn f b) _ (in-between f b) (λ g. answer-between _)))
+    (λ v. step-between (formatNumbered v) _ (format-between v) (λ f. step-between (readIn f b) _ (in-between f b) (λ g. answer-between _)))

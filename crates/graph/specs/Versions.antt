@@ -10,13 +10,13 @@ use Rattle.graph.specs.Answer.{Answer, refused, answered, refusal, _else
 use Rattle.graph.specs.Read.{readVersion, readIn}
 
 -- a graph that was read, and the version in which it was stored
-pub record Stored : Type 0 where
+pub record StoredGraph : Type 0 where
   pub format : Format
   pub graph : Graph
 
 -- the version of this number; 3 another version
-unfoldable pub formatOf : ℕ → Answer Format
-formatOf version = cond (eqb version 1) (answered form1) (refused (refusal 3))
+unfoldable pub formatNumbered : ℕ → Answer Format
+formatNumbered version = cond (eqb version 1) (answered form1) (refused (refusal 3))
 
 -- the version in which a graph of these counts and ports is stored
 unfoldable pub fittingSizes : Counts → ℕ → Format
@@ -26,10 +26,10 @@ abbrev pub fitting : Graph → Format
 fitting g = fittingSizes (counts g) (ports g)
 
 -- what any bytes are read as
-unfoldable pub read : List ℕ → Answer Stored
+unfoldable pub read : List ℕ → Answer StoredGraph
 read b = do
   version ← readVersion b
-  f ← formatOf version
+  f ← formatNumbered version
   g ← readIn f b
   answered (record { format = f; graph = g })
 

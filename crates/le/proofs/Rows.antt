@@ -5,7 +5,6 @@ use mathlib.Core.Logic.{inl, inr}
 use mathlib.Core.Path.{_≡_, refl, sym, ap, _∙_, subst}
 use Prim.Native.Nat.{ℕ, zero, suc, _+_, _-_, _*_, _^_, _≤_, _<_}
 use native.Mathlib.Nat.{mul-le-mul-left, mul-le-mul-right, suc-mul, zero-mul, zero-add, suc-add, add-comm}
-use native.Mathlib.Numerals.{add-one}
 use native.Mathlib.Omega.{arith}
 use lib.ListN.{length, getD, set, take, drop, length-drop}
 use lib.Seq.{sets, length-sets, drop-drop, take-at, drop-at}
@@ -13,8 +12,8 @@ use Rattle.le.specs.Le.{Below, Wide, bytes, number, numberAt, numbers, r
 use Rattle.le.specs.Rows.{placeIn, Holds, entry, span, puts}
 use Rattle.le.specs.declared.Row.{Row}
 use Rattle.le.proofs.Numbers.{below-drop, length-bytes, number-bytes, length-row, length-numbers, row-append, numbers-below, rejoin}
-use Rattle.le.proofs.Places.{number-drop, getD-numbers, numbers-next, set-numbers}
-use Rattle.le.proofs.Stores.{sets-append, take-sets-le, drop-sets-add}
+use Rattle.le.proofs.Places.{number-drop, getD-numbers, set-numbers}
+use Rattle.le.proofs.Stores.{sets-append, drop-sets-add}
 
 -- ---- widths
 

@@ -3,7 +3,6 @@
 use mathlib.Core.List.{List}
 use mathlib.Core.Path.{_≡_, refl, ap, _∙_, subst, sym}
 use Prim.Native.Nat.{ℕ}
-use native.Mathlib.Omega.{arith}
 use Rattle.graph.specs.Answer.{Answer, refused, answered, Result}
 use Rattle.form.specs.Form.{outcome, Gives, GivesMap}
 use Rattle.form.specs.declared.Outcome.{Outcome}

@@ -11,7 +11,7 @@ use lib.Seq.{drop-drop}
 use borrow.Author.Tests.{le-leb, lt-leb}
 use Rattle.form.specs.Form.{refusalOf, meant, sized, countsOf, reading}
 use Rattle.form.specs.declared.Format as form
-use Rattle.read.specs.Steps.{coded, versioned, headed, measured, edgesStep}
+use Rattle.read.specs.Steps.{coded, versioned, headerRead, measured, edgesStep}
 use Rattle.read.specs.declared.Versioned.the-variants as version
 use Rattle.read.specs.Reach.{reach}
 use Rattle.form.specs.declared.Reading.the-variants.{Sized, Refused}
@@ -98,11 +98,11 @@ edges-read : (n : ℕ) (m : Answer Parsed) (ports at bound : ℕ) → edge.Next 
 edges-read n (refused r) ports at bound e = let o : _≡_ {A = ℕ} 0 1 = cc in absurd (omega arith)
 edges-read n (answered y) ports at bound e = (y, refl, cc, cc, cc)
 
-pub head-refused : (w : ℕ) (m : Answer Counts) (x : Refusal) → Refused x ≡ headed w m → m ≡ refused (refusal (x .no))
+pub head-refused : (w : ℕ) (m : Answer Counts) (x : Refusal) → Refused x ≡ headerRead w m → m ≡ refused (refusal (x .no))
 head-refused w (refused r) x e = same-refusal (cc)
 head-refused w (answered c) x e = let o : _≡_ {A = ℕ} 0 1 = cc in absurd (omega arith)
 
-pub head-read : (w : ℕ) (m : Answer Counts) (z : Sizes) → Sized z ≡ headed w m → m ≡ answered (countsOf z)
+pub head-read : (w : ℕ) (m : Answer Counts) (z : Sizes) → Sized z ≡ headerRead w m → m ≡ answered (countsOf z)
 head-read w (refused r) z e = let o : _≡_ {A = ℕ} 0 1 = cc in absurd (omega arith)
 head-read w (answered c) z e = let same : sized w c 0 ≡ z = cc in ap (λ (y : Sizes). answered (countsOf y)) same
 

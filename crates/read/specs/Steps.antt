@@ -36,9 +36,9 @@ versioned (refused r) = version.Refused (refusalOf r)
 versioned (answered f) = version.Is (coded f)
 
 -- a header read in a width: its counts, before any port is counted
-abbrev pub headed : ℕ → Answer Counts → Reading
-headed width (refused r) = read.Refused (refusalOf r)
-headed width (answered c) = read.Sized (sized width c 0)
+abbrev pub headerRead : ℕ → Answer Counts → Reading
+headerRead width (refused r) = read.Refused (refusalOf r)
+headerRead width (answered c) = read.Sized (sized width c 0)
 
 -- a graph read in a width: its sizes
 abbrev pub measured : ℕ → Answer Graph → Reading

@@ -15,12 +15,12 @@ ghost use Rattle.graph.specs.Form.{mark, headerBytes};
 ghost use Rattle.graph.specs.Answer.{_else_};
 ghost use Rattle.graph.specs.Read.{readVersion, readCounts, readEdge, readEdges, readLists, readBody, readIn};
 ghost use Rattle.graph.specs.Versions as versions;
-ghost use Rattle.graph.specs.Versions.{formatOf};
+ghost use Rattle.graph.specs.Versions.{formatNumbered};
 ghost use Rattle.graph.specs.Calls as calls;
 ghost use Rattle.graph.specs.Calls.{idList, labelList};
 ghost use Rattle.form.specs.Form.{meant, countsOf, numbered, counted, tested, reading};
 ghost use Rattle.read.specs.Reach.{reach, highest};
-ghost use Rattle.read.specs.Steps.{versioned, headed, measured, edgeStep, edgesStep};
+ghost use Rattle.read.specs.Steps.{versioned, headerRead, measured, edgeStep, edgesStep};
 use form::Format;
 use form::Reading;
 use form::Refusal;
@@ -65,8 +65,8 @@ pub enum Versioned {
 }
 
 // The version of this number: 3 there is none.
-fn format_of(version: usize) -> Versioned
-    ensures { λ r. ⌜ r ≡ versioned (formatOf version) ⌝ }
+fn format_numbered(version: usize) -> Versioned
+    ensures { λ r. ⌜ r ≡ versioned (formatNumbered version) ⌝ }
 {
     if version != 1 {
         return Versioned::Refused(Refusal { no: 3 });
@@ -96,7 +96,7 @@ pub fn counts_fit(f: Format, z: Sizes) -> bool
 // The rest of a header: 5 it is cut short, 4 a count is above its limit, or its counts.
 fn read_counts(s: &[u8], f: Format) -> Reading
     requires { ⌜ Wide (f .width) ⌝ }
-    ensures { λ r. ⌜ r ≡ headed (f .width) (readCounts (meant f) (now (s .entry))) ⌝ }
+    ensures { λ r. ⌜ r ≡ headerRead (f .width) (readCounts (meant f) (now (s .entry))) ⌝ }
 {
     if s.len() < 5 + 5 * f.width {
         return Reading::Refused(Refusal { no: 5 });
@@ -297,7 +297,7 @@ pub fn read(src: &[u8]) -> Reading
     let Step::Number(v) = version else {
         return Reading::Refused(version.refusal());
     };
-    match format_of(v) {
+    match format_numbered(v) {
         Versioned::Is(f) => read_in(src, f),
         Versioned::Refused(x) => Reading::Refused(x),
     }

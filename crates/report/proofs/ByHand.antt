@@ -12,7 +12,7 @@ use Rattle.graph.specs.Build.{empty, withPairs}
 use Rattle.graph.specs.Calls.{unpaired}
 use Rattle.graph.specs.Form.{encode}
 use Rattle.graph.specs.Read.{readVersion, readCounts, readEdge, readLists, readBody, readIn}
-use Rattle.graph.specs.Versions.{formatOf, fittingSizes, fitting, read}
+use Rattle.graph.specs.Versions.{formatNumbered, fittingSizes, fitting, read}
 use Rattle.report.specs.Report.{reportText}
 use Rattle.report.specs.Text.{ascii, decimal}
 
@@ -26,17 +26,17 @@ p7-form =
 
 -- and what it says is printed for them
 pub p7-printed : reportText p7-form ≡ ascii "OHG 1\nnodes 3 edges 2 ports 8\ncut 3 free 2\n0\n1\n2\n"
-unfolding _else_ _>>=_ _>>_ readVersion formatOf readCounts readEdge readLists readBody readIn read unpaired howMany size passing outside into out held shave core score worth best insert stages choice edgeArcs arcsFrom arcs chosen decimal reportText
+unfolding _else_ _>>=_ _>>_ readVersion formatNumbered readCounts readEdge readLists readBody readIn read unpaired howMany size passing outside into out held shave core score worth best insert stages choice edgeArcs arcsFrom arcs chosen decimal reportText
 p7-printed = refl
 
 -- P1, the empty graph
 pub p1-printed : reportText (encode (fitting empty) empty) ≡ ascii "OHG 1\nnodes 0 edges 0 ports 0\ncut 0 free 0\n"
-unfolding _else_ _>>=_ _>>_ encode fittingSizes readVersion formatOf readCounts readEdge readLists readBody readIn read unpaired howMany size passing outside into out held shave core score worth best insert stages choice edgeArcs arcsFrom arcs chosen decimal reportText
+unfolding _else_ _>>=_ _>>_ encode fittingSizes readVersion formatNumbered readCounts readEdge readLists readBody readIn read unpaired howMany size passing outside into out held shave core score worth best insert stages choice edgeArcs arcsFrom arcs chosen decimal reportText
 p1-printed = refl
 
 -- P9, P6 with one pair
 pub p9-printed : reportText (encode (fitting p6) (withPairs ((0, 1) ∷ []) p6)) ≡ ascii "refused 8\n"
-unfolding _else_ _>>=_ _>>_ encode fittingSizes readVersion formatOf readCounts readEdge readLists readBody readIn read unpaired decimal reportText
+unfolding _else_ _>>=_ _>>_ encode fittingSizes readVersion formatNumbered readCounts readEdge readLists readBody readIn read unpaired decimal reportText
 p9-printed = refl
 
 -- no bytes at all

@@ -16,7 +16,7 @@ use Rattle.graph.specs.Calls.{unpaired}
 use Rattle.graph.specs.Form.{headerBytes, formBytes}
 use Rattle.graph.specs.Graph.{Edge, Counts, Format, Within, countsFit, largest}
 use Rattle.graph.specs.Read.{readVersion, readCounts, readEdge, readEdges, readBody, readIn, countsAt}
-use Rattle.graph.specs.Versions.{Stored, formatOf, read}
+use Rattle.graph.specs.Versions.{StoredGraph, formatNumbered, read}
 use Rattle.le.specs.Le.{number, numbers, numberAt}
 use Rattle.graph.proofs.Reading.{Edges}
 use Rattle.graph.proofs.ReadWrite.{fits-within}
@@ -197,8 +197,8 @@ version-more p q l =
     (alike-test _ _ 1 (long-front p q 15 (omega arith)) (λ _. alike-test _ _ 2 refl (λ _. went _ _ refl tt)))
 
 -- no version has a longer form than the largest
-longest-form : (v : ℕ) (f : Format) → formatOf v ≡ answered f → formBytes f (f .most) (f .mostPorts) ≤ formBytes largest (largest .most) (largest .mostPorts)
-unfolding formatOf
+longest-form : (v : ℕ) (f : Format) → formatNumbered v ≡ answered f → formBytes f (f .most) (f .mostPorts) ≤ formBytes largest (largest .most) (largest .mostPorts)
+unfolding formatNumbered
 longest-form v f = go (eqb v 1)
   where
     go : (t : Bool) → cond t (answered largest) (refused (refusal 3)) ≡ answered f
@@ -211,12 +211,12 @@ unfolding read
 read-more p q l =
     same-answers {P = λ s. Unit {0}}
     (alike-then _ _ (version-more p q (omega arith)) (λ v _.
-    alike-then _ _ (same-itself (formatOf v)) (λ f e.
+    alike-then _ _ (same-itself (formatNumbered v)) (λ f e.
     alike-then _ _ (in-more f p q (omega (arith, longest-form v f e))) (λ g _. went _ _ refl tt))))
 
 pub report-of-prefix : (n : ℕ) (b : List ℕ) → formBytes largest (largest .most) (largest .mostPorts) < n → reportText (take n b) ≡ reportText b
 unfolding reportText
-report-of-prefix n b l = ap (λ (m : Answer Stored). told (m >>= λ s. unpaired (s .graph))) (go (leb (length b) n) refl)
+report-of-prefix n b l = ap (λ (m : Answer StoredGraph). told (m >>= λ s. unpaired (s .graph))) (go (leb (length b) n) refl)
   where
     go : (t : Bool) → leb (length b) n ≡ t → read (take n b) ≡ read b
     go true e = ap read (take-all n b (leb-true _ _ e))

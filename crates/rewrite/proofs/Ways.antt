@@ -3,18 +3,16 @@
 use mathlib.Core.List.{List, [], _∷_}
 use mathlib.Core.Path.{_≡_, refl, sym, ap, _∙_, subst}
 use Prim.Native.Nat.{ℕ, _≤_, _<_}
-use native.Mathlib.Omega.{arith}
 use lib.ListN.{length}
 use borrow.Author.Tests.{le-leb, lt-leb}
 use Rattle.le.specs.Le.{row}
 use Rattle.le.specs.Rows.{rowAt, puts}
-use Rattle.le.proofs.Numbers.{length-row}
-use Rattle.graph.specs.Answer.{Answer, answered, refused, refusal, Result, writing, lay, _else_, _>>=_, _>>_}
-use Rattle.graph.specs.Calls.{Next, rewriteStep, sizes, fit, readCall}
+use Rattle.graph.specs.Answer.{Answer, answered, refusal, Result, writing, lay, _else_, _>>=_, _>>_}
+use Rattle.graph.specs.Calls.{rewriteStep, sizes, fit, readCall}
 use Rattle.graph.specs.Versions.{fitting, read}
 use Rattle.graph.proofs.Places.{sets-lay}
-use Rattle.form.specs.Form.{meantBy, sizesOf, countsOf, Gives}
-use Rattle.form.specs.Stored.{storedOf, graphOf, formatOf, Stored}
+use Rattle.form.specs.Form.{sizesOf, countsOf, Gives}
+use Rattle.form.specs.Stored.{graphOf, Stored}
 use Rattle.form.specs.declared.Outcome.the-variants as call
 use Rattle.form.specs.declared.Refusal.{Refusal}
 use Rattle.form.specs.declared.Sizes.{Sizes}

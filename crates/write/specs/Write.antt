@@ -29,13 +29,13 @@ abbrev pub fitted : Counts → ℕ → Sizes
 fitted c ports = sized (fittingSizes c ports .width) c ports
 
 -- no count and no port sum is above the largest limit
-abbrev pub withinLimits : Sizes → Bool
-withinLimits y = countsFit largest (countsOf y) && leb (y .ports) (largest .mostPorts)
+abbrev pub sizesFit : Sizes → Bool
+sizesFit y = countsFit largest (countsOf y) && leb (y .ports) (largest .mostPorts)
 
 -- a result of these sizes: 9 it passes a limit, 10 its form is longer than the room; else the bytes of its form
 unfoldable pub resultSize : Sizes → ℕ → Answer ℕ
 resultSize y room = do
-  withinLimits y else 9
+  sizesFit y else 9
   leb (formBytes (formatFor y) (countsOf y) (y .ports)) room else 10
   answered (formBytes (formatFor y) (countsOf y) (y .ports))
 

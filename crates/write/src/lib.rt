@@ -10,7 +10,7 @@ ghost use Rattle.le.specs.Rows.{Holds, rowAt, puts};
 ghost use Rattle.graph.specs.Lists.{range};
 ghost use Rattle.graph.specs.Form.{mark};
 ghost use Rattle.form.specs.Form.{countsOf, numbered, Low, bodySize};
-ghost use Rattle.write.specs.Write.{countedAs, fitted, withinLimits, resultSize, headed};
+ghost use Rattle.write.specs.Write.{countedAs, fitted, sizesFit, resultSize, headed};
 use form::Refusal;
 use form::Sizes;
 use form::Step;
@@ -39,8 +39,8 @@ pub fn sized(
 }
 
 // Whether no count and no port sum is above the largest limit.
-fn within_limits(y: Sizes) -> bool
-    ensures { λ r. ⌜ r ≡ withinLimits y ⌝ }
+fn sizes_fit(y: Sizes) -> bool
+    ensures { λ r. ⌜ r ≡ sizesFit y ⌝ }
 {
     if graph::MAX_NODES < y.nodes {
         return false;
@@ -75,7 +75,7 @@ pub fn result_size(y: Sizes, room: usize) -> Step
     requires { ⌜ y ≡ fitted (countsOf y) (y .ports) ⌝ }
     ensures { λ r. ⌜ r ≡ numbered (resultSize y room) ⌝ }
 {
-    if !within_limits(y) {
+    if !sizes_fit(y) {
         return Step::Refused(Refusal { no: 9 });
     }
     let bytes = form_bytes(y);

@@ -13,9 +13,6 @@ use Rattle.checks.proofs.feed_edge.Tie as tie
 feed-list-requires : tie.Need-feed-list-requires
 feed-list-requires c κs = let p = c .before .before .before .pre in (holds-less (p .0 .0) _ (omega arith), p .1 .0, p .0 .1, inl refl)
 
-same-length : tie.Need-same-length
-same-length c = search needs
-
 returns : tie.Need-returns
 returns c =
     let f = c .before .before .before .feed-list in
@@ -28,9 +25,6 @@ add-feed-list c = omega (arith, holds-index (c .before .before .before .before .
 feed-list-requires-2 : tie.Need-feed-list-requires-2
 feed-list-requires-2 c κs = let p = c .before .before .before .before .before .before .before .before .before .pre in (p .0 .0, p .1 .1, omega (arith, c .before .before .before .before .before .feed-list .kept .1 .1 .1 .1 .1 .0), inr refl)
 
-same-length-2 : tie.Need-same-length-2
-same-length-2 c = search needs
-
 returns-2 : tie.Need-returns-2
 returns-2 c =
     let f = c .before .before .before .before .before .before .before .before .feed-list in
@@ -42,9 +36,9 @@ feed-edge-spec =
     tie.close
     (tie.spec
     feed-list-requires
-    same-length
+    (λ c. search needs)
     returns
     add-feed-list
     feed-list-requires-2
-    same-length-2
+    (λ c. search needs)
     returns-2)

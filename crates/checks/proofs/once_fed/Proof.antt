@@ -22,7 +22,7 @@ use Rattle.checks.proofs.once_fed.Statement.{statement}
 use Rattle.checks.proofs.once_fed.Tie as tie
 
 -- the answer
-abbrev next : versions.Stored → Graph → Answer Result
+abbrev next : versions.StoredGraph → Graph → Answer Result
 next s g = answered (saying (onceFed g))
 
 -- the form that was read
@@ -43,36 +43,12 @@ decided c =
     (p .result) (p .ensures) _ (c .before .before .enum-told4 .given .1))
     ∙ ap (λ (yes : Bool). Done (cond yes 1 0) 0) (sym (c .feed-edges .ensures))
 
-work-room-requires : tie.Need-work-room-requires
-work-room-requires c κs = search needs
-
-enum-told : tie.Need-enum-told
-enum-told c = search needs
-
-enum-told-2 : tie.Need-enum-told-2
-enum-told-2 c = search needs
-
-refusal-requires : tie.Need-refusal-requires
-refusal-requires c κs = search needs
-
 returns : tie.Need-returns
 unfolding fedOnce
 returns c =
     let w = c .before .before .before .work-room in
     let r = c .refusal in
     sym (ap outcome (room-short (now (c .before .before .before .before .before .before .args .src)) roomOnceFed _ next (w .result) (w .ensures) _ (c .before .enum-told2 .given .1) (r .result) (r .ensures)))
-
-read-requires : tie.Need-read-requires
-read-requires c κs = search needs
-
-enum-known-graph : tie.Need-enum-known-graph
-enum-known-graph c = search needs
-
-enum-told-3 : tie.Need-enum-told-3
-enum-told-3 c = search needs
-
-refusal-requires-2 : tie.Need-refusal-requires-2
-refusal-requires-2 c κs = search needs
 
 returns-2 : tie.Need-returns-2
 unfolding fedOnce
@@ -82,18 +58,6 @@ returns-2 c =
     let r = c .refusal2 in
     sym (ap outcome (graph-unread (now (c .before .before .before .before .before .before .before .before .before .args .src)) roomOnceFed _ next (w .result) (w .ensures) _ (c .before .before .before .before .enum-told .given .1)
     (g .result) (g .ensures) _ (c .before .enum-told3 .given .1) (r .result) (r .ensures)))
-
-unpaired-requires : tie.Need-unpaired-requires
-unpaired-requires c κs = search needs
-
-enum-told-4 : tie.Need-enum-told-4
-enum-told-4 c = search needs
-
-enum-told-5 : tie.Need-enum-told-5
-enum-told-5 c = search needs
-
-refusal-requires-3 : tie.Need-refusal-requires-3
-refusal-requires-3 c κs = search needs
 
 returns-3 : tie.Need-returns-3
 unfolding fedOnce
@@ -112,14 +76,8 @@ feed-edges-requires c κs =
     let l = room-enough (now (a .src)) roomOnceFed (length (now (a .room))) next (w .result) (w .ensures) _ (c .before .before .before .before .before .before .before .before .enum-told .given .1) in
     (s, omega (arith, ap (λ (y : Sizes). y .nodes) (s .sizes), s .within .counts .nodes, l))
 
-same-length : tie.Need-same-length
-same-length c = search needs
-
 returns-4 : tie.Need-returns-4
 returns-4 c = sym (decided (c .before .before .before) ∙ ap (λ (yes : Bool). Done (cond yes 1 0) 0) (c .if1 .taken))
-
-same-length-2 : tie.Need-same-length-2
-same-length-2 c = search needs
 
 returns-5 : tie.Need-returns-5
 returns-5 c = sym (decided (c .before .before .before) ∙ ap (λ (yes : Bool). Done (cond yes 1 0) 0) (c .if1 .left))
@@ -128,23 +86,23 @@ pub once-fed-spec : {M : Type 1} → statement M
 once-fed-spec =
     tie.close
     (tie.spec
-    work-room-requires
-    enum-told
-    enum-told-2
-    refusal-requires
+    (λ c κs. search needs)
+    (λ c. search needs)
+    (λ c. search needs)
+    (λ c κs. search needs)
     returns
-    read-requires
-    enum-known-graph
-    enum-told-3
-    refusal-requires-2
+    (λ c κs. search needs)
+    (λ c. search needs)
+    (λ c. search needs)
+    (λ c κs. search needs)
     returns-2
-    unpaired-requires
-    enum-told-4
-    enum-told-5
-    refusal-requires-3
+    (λ c κs. search needs)
+    (λ c. search needs)
+    (λ c. search needs)
+    (λ c κs. search needs)
     returns-3
     feed-edges-requires
-    same-length
+    (λ c. search needs)
     returns-4
-    same-length-2
+    (λ c. search needs)
     returns-5)

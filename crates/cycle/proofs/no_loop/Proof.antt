@@ -21,7 +21,7 @@ use Rattle.cycle.proofs.no_loop.Statement.{statement}
 use Rattle.cycle.proofs.no_loop.Tie as tie
 
 -- the answer
-abbrev next : versions.Stored → Graph → Answer Result
+abbrev next : versions.StoredGraph → Graph → Answer Result
 next s g = answered (saying (noLoop g))
 
 -- the form that was read

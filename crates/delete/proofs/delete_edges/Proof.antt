@@ -77,36 +77,12 @@ deleted c = unmarked-deleted (c .mark .last .0) (c .before .before .before .befo
 sizes : (c : tie.After-without-edges) → c .without-edges .result ≡ sizesOf (fitting (left (c .before .before .before .before .before .before) .graph)) (left (c .before .before .before .before .before .before) .graph)
 sizes c = c .without-edges .ensures ∙ ap (λ (h : Graph). sizesOf (fitting h) h) (deleted (c .before .before .before .before))
 
-work-room-requires : tie.Need-work-room-requires
-work-room-requires c κs = search needs
-
-enum-told : tie.Need-enum-told
-enum-told c = search needs
-
-enum-told-2 : tie.Need-enum-told-2
-enum-told-2 c = search needs
-
-refusal-requires : tie.Need-refusal-requires
-refusal-requires c κs = search needs
-
 returns : tie.Need-returns
 returns c =
     let s = c .before .before .before .before .before .before .before .before in
     let x = c .before .enum-told2 .given in
     passes (c .refusal .ensures ∙ ap refusalIn (x .1))
     (gives-refused (x .0 .0) (now (s .args .out)) (work-short roomDeleteEdges _ (call s) (c .before .before .before .work-room .result) (c .before .before .before .work-room .ensures) (x .0 .0) (x .1)))
-
-read-requires : tie.Need-read-requires
-read-requires c κs = search needs
-
-enum-known-graph : tie.Need-enum-known-graph
-enum-known-graph c = search needs
-
-enum-told-3 : tie.Need-enum-told-3
-enum-told-3 c = search needs
-
-refusal-requires-2 : tie.Need-refusal-requires-2
-refusal-requires-2 c κs = search needs
 
 returns-2 : tie.Need-returns-2
 returns-2 c =
@@ -118,15 +94,6 @@ returns-2 c =
 
 id-list-requires : tie.Need-id-list-requires
 id-list-requires c κs = stored-rows (form c) .low .width
-
-enum-known-list : tie.Need-enum-known-list
-enum-known-list c = search needs
-
-enum-told-4 : tie.Need-enum-told-4
-enum-told-4 c = search needs
-
-refusal-requires-3 : tie.Need-refusal-requires-3
-refusal-requires-3 c κs = search needs
 
 returns-3 : tie.Need-returns-3
 returns-3 c =
@@ -148,18 +115,6 @@ without-edges-requires c κs = let h = roomy (c .before .before .before .before 
 result-size-requires : tie.Need-result-size-requires
 result-size-requires c κs = sizes c ∙ ap (λ (y : Sizes). fitted (countsOf y) (y .ports)) (sym (sizes c))
 
-enum-known-size : tie.Need-enum-known-size
-enum-known-size c = search needs
-
-enum-told-5 : tie.Need-enum-told-5
-enum-told-5 c = search needs
-
-refusal-requires-4 : tie.Need-refusal-requires-4
-refusal-requires-4 c κs = search needs
-
-same-length : tie.Need-same-length
-same-length c = search needs
-
 returns-4 : tie.Need-returns-4
 returns-4 c =
     let s = c .before .before .before .before .before .before .before .before .before .before .before .before .before .before .before .before .before .before .before .before .before .before .before .before .before in
@@ -176,12 +131,6 @@ put-without-edges-requires c κs =
     let fits = graph-fits (now (s .args .src)) (next s) (now (s .args .out)) (form (c .before .before .before .before .before .before .before .before .before .before .before .before .before .before .before .before)) (left (c .before .before .before .before .before .before .before .before .before .before .before .before)) (goes-on (c .before .before .before .before .before .before .before .before .before .before .before .before)) (c .before .before .before .before .before .before .without-edges .result) (sizes (c .before .before .before .before .before .before)) (r .result) (r .ensures) _ (c .before .before .before .size .given .1) in
     ((form (c .before .before .before .before .before .before .before .before .before .before .before .before .before .before .before .before), omega arith, fits-room fits (now (s .args .out)) refl), c .before .before .before .before .before .before .without-edges .ensures)
 
-same-length-2 : tie.Need-same-length-2
-same-length-2 c = search needs
-
-same-length-3 : tie.Need-same-length-3
-same-length-3 c = search needs
-
 returns-5 : tie.Need-returns-5
 returns-5 c =
     let s = c .before .before .before .before .before .before .before .before .before .before .before .before .before .before .before .before .before .before .before .before .before .before .before .before .before .before .before .before .before .before in
@@ -195,30 +144,30 @@ pub delete-edges-spec : {M : Type 1} → statement M
 delete-edges-spec =
     tie.close
     (tie.spec
-    work-room-requires
-    enum-told
-    enum-told-2
-    refusal-requires
+    (λ c κs. search needs)
+    (λ c. search needs)
+    (λ c. search needs)
+    (λ c κs. search needs)
     returns
-    read-requires
-    enum-known-graph
-    enum-told-3
-    refusal-requires-2
+    (λ c κs. search needs)
+    (λ c. search needs)
+    (λ c. search needs)
+    (λ c κs. search needs)
     returns-2
     id-list-requires
-    enum-known-list
-    enum-told-4
-    refusal-requires-3
+    (λ c. search needs)
+    (λ c. search needs)
+    (λ c κs. search needs)
     returns-3
     mark-requires
     without-edges-requires
     result-size-requires
-    enum-known-size
-    enum-told-5
-    refusal-requires-4
-    same-length
+    (λ c. search needs)
+    (λ c. search needs)
+    (λ c κs. search needs)
+    (λ c. search needs)
     returns-4
     put-without-edges-requires
-    same-length-2
-    same-length-3
+    (λ c. search needs)
+    (λ c. search needs)
     returns-5)

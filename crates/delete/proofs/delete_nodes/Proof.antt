@@ -91,35 +91,11 @@ map-held c =
       inside = omega (arith, room-enough _ (length (now (c .before .before .before .before .before .before .before .before .before .before .before .before .before .before .before .before .before .before .before .before .before .before .before .before .before .before .before .before .before .before .args .map))) (r .result) (r .ensures) _ (c .enum-told6 .given .1));
     }
 
-work-room-requires : tie.Need-work-room-requires
-work-room-requires c κs = search needs
-
-enum-told : tie.Need-enum-told
-enum-told c = search needs
-
-enum-told-2 : tie.Need-enum-told-2
-enum-told-2 c = search needs
-
-refusal-requires : tie.Need-refusal-requires
-refusal-requires c κs = search needs
-
 returns : tie.Need-returns
 returns c =
     let s = c .before .before .before .before .before .before .before .before .before in
     let x = c .before .enum-told2 .given in
     passes-map (c .refusal .ensures ∙ ap refusalIn (x .1)) (work-short roomDeleteNodes _ (call s) (c .before .before .before .work-room .result) (c .before .before .before .work-room .ensures) (x .0 .0) (x .1))
-
-read-requires : tie.Need-read-requires
-read-requires c κs = search needs
-
-enum-known-graph : tie.Need-enum-known-graph
-enum-known-graph c = search needs
-
-enum-told-3 : tie.Need-enum-told-3
-enum-told-3 c = search needs
-
-refusal-requires-2 : tie.Need-refusal-requires-2
-refusal-requires-2 c κs = search needs
 
 returns-2 : tie.Need-returns-2
 returns-2 c =
@@ -131,15 +107,6 @@ returns-2 c =
 
 id-list-requires : tie.Need-id-list-requires
 id-list-requires c κs = stored-rows (form c) .low .width
-
-enum-known-list : tie.Need-enum-known-list
-enum-known-list c = search needs
-
-enum-told-4 : tie.Need-enum-told-4
-enum-told-4 c = search needs
-
-refusal-requires-3 : tie.Need-refusal-requires-3
-refusal-requires-3 c κs = search needs
 
 returns-3 : tie.Need-returns-3
 returns-3 c =
@@ -160,18 +127,6 @@ without-nodes-requires c κs = (form (c .before .before .before .before .before 
 result-size-requires : tie.Need-result-size-requires
 result-size-requires c κs = sizes c ∙ ap (λ (y : Sizes). fitted (countsOf y) (y .ports)) (sym (sizes c))
 
-enum-known-size : tie.Need-enum-known-size
-enum-known-size c = search needs
-
-enum-told-5 : tie.Need-enum-told-5
-enum-told-5 c = search needs
-
-refusal-requires-4 : tie.Need-refusal-requires-4
-refusal-requires-4 c κs = search needs
-
-same-length : tie.Need-same-length
-same-length c = search needs
-
 returns-4 : tie.Need-returns-4
 returns-4 c =
     let s = c .before .before .before .before .before .before .before .before .before .before .before .before .before .before .before .before .before .before .before .before .before .before .before .before .before .before in
@@ -185,21 +140,6 @@ mul-work-room : tie.Need-mul-work-room
 mul-work-room c =
     let low = stored-rows (form (c .before .before .before .before .before .before .before .before .before .before .before .before .before .before .before)) .low in
     omega (arith, mul-le-mul-left (c .before .before .before .before .before .before .before .before .before .before .before .before .before .before .before .before .graph .given .0 .0 .nodes) (low .narrow))
-
-work-room-requires-2 : tie.Need-work-room-requires-2
-work-room-requires-2 c κs = search needs
-
-enum-told-6 : tie.Need-enum-told-6
-enum-told-6 c = search needs
-
-enum-told-7 : tie.Need-enum-told-7
-enum-told-7 c = search needs
-
-refusal-requires-5 : tie.Need-refusal-requires-5
-refusal-requires-5 c κs = search needs
-
-same-length-2 : tie.Need-same-length-2
-same-length-2 c = search needs
 
 returns-5 : tie.Need-returns-5
 returns-5 c =
@@ -230,15 +170,6 @@ put-without-nodes-requires c κs =
     } in
     ((f, mapped, fits-room (fits (c .before .before .before .before .before .before .before .before .before .before .before .before)) (now (s .args .out)) refl), c .before .before .before .before .before .before .before .before .before .before .before .before .before .before .before .before .without-nodes .ensures)
 
-same-length-3 : tie.Need-same-length-3
-same-length-3 c = search needs
-
-same-length-4 : tie.Need-same-length-4
-same-length-4 c = search needs
-
-same-length-5 : tie.Need-same-length-5
-same-length-5 c = search needs
-
 returns-6 : tie.Need-returns-6
 returns-6 c =
     let s = c .before .before .before .before .before .before .before .before .before .before .before .before .before .before .before .before .before .before .before .before .before .before .before .before .before .before .before .before .before .before .before .before .before .before .before .before .before .before .before .before .before in
@@ -263,39 +194,39 @@ pub delete-nodes-spec : {M : Type 1} → statement M
 delete-nodes-spec =
     tie.close
     (tie.spec
-    work-room-requires
-    enum-told
-    enum-told-2
-    refusal-requires
+    (λ c κs. search needs)
+    (λ c. search needs)
+    (λ c. search needs)
+    (λ c κs. search needs)
     returns
-    read-requires
-    enum-known-graph
-    enum-told-3
-    refusal-requires-2
+    (λ c κs. search needs)
+    (λ c. search needs)
+    (λ c. search needs)
+    (λ c κs. search needs)
     returns-2
     id-list-requires
-    enum-known-list
-    enum-told-4
-    refusal-requires-3
+    (λ c. search needs)
+    (λ c. search needs)
+    (λ c κs. search needs)
     returns-3
     mark-requires
     without-nodes-requires
     result-size-requires
-    enum-known-size
-    enum-told-5
-    refusal-requires-4
-    same-length
+    (λ c. search needs)
+    (λ c. search needs)
+    (λ c κs. search needs)
+    (λ c. search needs)
     returns-4
     mul-work-room
-    work-room-requires-2
-    enum-told-6
-    enum-told-7
-    refusal-requires-5
-    same-length-2
+    (λ c κs. search needs)
+    (λ c. search needs)
+    (λ c. search needs)
+    (λ c κs. search needs)
+    (λ c. search needs)
     returns-5
     put-map-requires
     put-without-nodes-requires
-    same-length-3
-    same-length-4
-    same-length-5
+    (λ c. search needs)
+    (λ c. search needs)
+    (λ c. search needs)
     returns-6)

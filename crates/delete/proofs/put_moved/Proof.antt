@@ -46,9 +46,6 @@ put-number-requires c κs = (fits (c .before .before), c .number .ensures .1)
 add-result : tie.Need-add-result
 add-result c = omega (arith, holds-index (fits (c .before .before .before .before .before)))
 
-same-length : tie.Need-same-length
-same-length c = search needs
-
 returns-2 : tie.Need-returns-2
 returns-2 c =
     let s = c .before .before .before .before .before .before .before .before .before .before in
@@ -66,5 +63,5 @@ put-moved-spec =
     number-requires
     put-number-requires
     add-result
-    same-length
+    (λ c. search needs)
     returns-2)

@@ -69,9 +69,6 @@ put-two-requires c κs =
       omega (arith, q .next, s .pre .0 .2),
     )
 
-same-length : tie.Need-same-length
-same-length c = search needs
-
 returns : tie.Need-returns
 returns c =
     let a = c .before .before .before .before .before .before .before .before .before .before .before .before .before .before .before .before .before .args in
@@ -102,5 +99,5 @@ put-moved-edge-spec =
     sub-put-two
     sub-put-two-2
     put-two-requires
-    same-length
+    (λ c. search needs)
     returns)

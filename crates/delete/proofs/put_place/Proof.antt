@@ -13,17 +13,11 @@ use native.Mathlib.Omega.{arith}
 use Rattle.delete.proofs.put_place.Statement.{statement}
 use Rattle.delete.proofs.put_place.Tie as tie
 
-shared-slice-read-if1 : tie.Need-shared-slice-read-if1
-shared-slice-read-if1 c = search needs
-
 highest-requires : tie.Need-highest-requires
 highest-requires c κs = c .before .before .before .before .before .pre .1 .wide
 
 put-number-requires : tie.Need-put-number-requires
 put-number-requires c κs = (c .before .before .before .before .before .before .pre .1, omega (arith, c .highest .ensures, wide-low (c .before .before .before .before .before .before .pre .1 .wide)))
-
-same-length : tie.Need-same-length
-same-length c = search needs
 
 returns : tie.Need-returns
 returns c =
@@ -41,9 +35,6 @@ put-number-requires-2 c κs = (c .before .before .before .before .before .pre .1
 add-result : tie.Need-add-result
 add-result c = omega arith
 
-same-length-2 : tie.Need-same-length-2
-same-length-2 c = search needs
-
 returns-2 : tie.Need-returns-2
 returns-2 c =
     let a = c .before .before .before .before .before .before .before .before .args in
@@ -57,12 +48,12 @@ pub put-place-spec : {M : Type 1} → statement M
 put-place-spec =
     tie.close
     (tie.spec
-    shared-slice-read-if1
+    (λ c. search needs)
     highest-requires
     put-number-requires
-    same-length
+    (λ c. search needs)
     returns
     put-number-requires-2
     add-result
-    same-length-2
+    (λ c. search needs)
     returns-2)

@@ -17,9 +17,6 @@ left-requires c κs = c .before .before .pre .1
 ports-of-left-requires : tie.Need-ports-of-left-requires
 ports-of-left-requires c κs = c .before .before .before .pre
 
-sized-requires : tie.Need-sized-requires
-sized-requires c κs = search needs
-
 returns : tie.Need-returns
 returns c =
     let s = c .before .before .before .before .before in
@@ -37,5 +34,5 @@ without-edges-spec =
     (tie.spec
     left-requires
     ports-of-left-requires
-    sized-requires
+    (λ c κs. search needs)
     returns)

@@ -65,9 +65,6 @@ left-requires c κs = c .before .before .before .before .before .before .before 
 ports-left-requires : tie.Need-ports-left-requires
 ports-left-requires c κs = c .before .before .before .before .before .before .before .before .before .before .before .before .pre
 
-sized-requires : tie.Need-sized-requires
-sized-requires c κs = search needs
-
 returns : tie.Need-returns
 returns c =
     let s = c .before .before .before .before .before .before .before .before .before .before .before .before .before .before in
@@ -104,5 +101,5 @@ without-nodes-spec =
     pairs-left-requires
     left-requires
     ports-left-requires
-    sized-requires
+    (λ c κs. search needs)
     returns)

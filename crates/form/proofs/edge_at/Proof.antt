@@ -1,7 +1,6 @@
 -- `form::edge_at` meets its contract.
 -- Assumes nothing.
 use native.Mathlib.Omega.{arith}
-use borrow.Author.Needs.{needs}
 use Rattle.form.specs.Form.{edgeIn}
 use Rattle.form.proofs.edge_at.Statement.{statement}
 use Rattle.form.proofs.edge_at.Tie as tie

@@ -1,6 +1,6 @@
 -- `form::highest` meets its contract.
 -- Assumes nothing.
-use mathlib.Core.Path.{_≡_, sym, ap}
+use mathlib.Core.Path.{sym, ap}
 use Prim.Native.Nat.{ℕ, _-_, _^_}
 use Rattle.form.proofs.highest.Statement.{statement}
 use Rattle.form.proofs.highest.Tie as tie

@@ -33,38 +33,14 @@ ends c =
     nothing-ends (now (c .before .before .before .before .before .before .before .before .args .out)) (discrete labels) 0 (c .before .sized .ensures ∙ ap (λ (k : ℕ). fitted (countedAs k 0 0 0 0) 0) (l .many)) (c .result-size .ensures)
     (discreteStep (now (c .before .before .before .before .before .before .before .before .args .labels))) (goes _ (l .answers))
 
-label-list-requires : tie.Need-label-list-requires
-label-list-requires c κs = search needs
-
-enum-known-list : tie.Need-enum-known-list
-enum-known-list c = search needs
-
-enum-told : tie.Need-enum-told
-enum-told c = search needs
-
-refusal-requires : tie.Need-refusal-requires
-refusal-requires c κs = search needs
-
 returns : tie.Need-returns
 unfolding discreteStep
 returns c =
     let a = c .before .before .before .before .before .before .args in
     nothing-stopped-gives (discreteStep (now (a .labels))) (now (a .out)) _ (stops _ (list-refused _ _ (c .before .before .before .label-list .ensures) _ (passed-on (c .before .enum-told .given .1) (c .refusal .ensures))))
 
-sized-requires : tie.Need-sized-requires
-sized-requires c κs = search needs
-
 result-size-requires : tie.Need-result-size-requires
 result-size-requires c κs = rw (c .sized .ensures)
-
-enum-known-size : tie.Need-enum-known-size
-enum-known-size c = search needs
-
-enum-told-2 : tie.Need-enum-told-2
-enum-told-2 c = search needs
-
-refusal-requires-2 : tie.Need-refusal-requires-2
-refusal-requires-2 c κs = search needs
 
 returns-2 : tie.Need-returns-2
 returns-2 c = ends (c .before .before .before) .refuses (c .before .enum-told2 .given .1) (c .refusal2 .ensures)
@@ -85,16 +61,16 @@ pub discrete-spec : {M : Type 1} → statement M
 discrete-spec =
     tie.close
     (tie.spec
-    label-list-requires
-    enum-known-list
-    enum-told
-    refusal-requires
+    (λ c κs. search needs)
+    (λ c. search needs)
+    (λ c. search needs)
+    (λ c κs. search needs)
     returns
-    sized-requires
+    (λ c κs. search needs)
     result-size-requires
-    enum-known-size
-    enum-told-2
-    refusal-requires-2
+    (λ c. search needs)
+    (λ c. search needs)
+    (λ c κs. search needs)
     returns-2
     put-head-requires
     same-length

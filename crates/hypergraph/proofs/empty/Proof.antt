@@ -16,20 +16,8 @@ ends : (c : tie.After-result-size) → Ends (emptyCall (length (now (c .before .
 unfolding emptyStep
 ends c = nothing-ends (now (c .before .before .before .args .out)) empty 0 (c .before .sized .ensures) (c .result-size .ensures) emptyStep refl
 
-sized-requires : tie.Need-sized-requires
-sized-requires c κs = search needs
-
 result-size-requires : tie.Need-result-size-requires
 result-size-requires c κs = rw (c .sized .ensures)
-
-enum-known-size : tie.Need-enum-known-size
-enum-known-size c = search needs
-
-enum-told : tie.Need-enum-told
-enum-told c = search needs
-
-refusal-requires : tie.Need-refusal-requires
-refusal-requires c κs = search needs
 
 returns : tie.Need-returns
 returns c = ends (c .before .before .before) .refuses (c .before .enum-told .given .1) (c .refusal .ensures)
@@ -47,11 +35,11 @@ pub empty-spec : {M : Type 1} → statement M
 empty-spec =
     tie.close
     (tie.spec
-    sized-requires
+    (λ c κs. search needs)
     result-size-requires
-    enum-known-size
-    enum-told
-    refusal-requires
+    (λ c. search needs)
+    (λ c. search needs)
+    (λ c κs. search needs)
     returns
     put-header-requires
     same-length

@@ -64,18 +64,6 @@ ends c =
     (now (a .src)) (λ f. newEdgeStep f (a .label) (now (a .sources)) (now (a .targets))) s
     (new-edge-next s (a .label) (now (a .sources)) (now (a .targets)) (p .answers) (q .answers))
 
-read-requires : tie.Need-read-requires
-read-requires c κs = search needs
-
-enum-known-graph : tie.Need-enum-known-graph
-enum-known-graph c = search needs
-
-enum-told : tie.Need-enum-told
-enum-told c = search needs
-
-refusal-requires : tie.Need-refusal-requires
-refusal-requires c κs = search needs
-
 returns : tie.Need-returns
 returns c =
     let a = c .before .before .before .before .before .before .before .before .args in
@@ -85,15 +73,6 @@ returns c =
 
 id-list-requires : tie.Need-id-list-requires
 id-list-requires c κs = stored-rows (form c) .low .width
-
-enum-known-from : tie.Need-enum-known-from
-enum-known-from c = search needs
-
-enum-told-2 : tie.Need-enum-told-2
-enum-told-2 c = search needs
-
-refusal-requires-2 : tie.Need-refusal-requires-2
-refusal-requires-2 c κs = search needs
 
 returns-2 : tie.Need-returns-2
 returns-2 c =
@@ -105,15 +84,6 @@ returns-2 c =
 
 id-list-requires-2 : tie.Need-id-list-requires-2
 id-list-requires-2 c κs = stored-rows (form (c .before .before .before .before)) .low .width
-
-enum-known-to : tie.Need-enum-known-to
-enum-known-to c = search needs
-
-enum-told-3 : tie.Need-enum-told-3
-enum-told-3 c = search needs
-
-refusal-requires-3 : tie.Need-refusal-requires-3
-refusal-requires-3 c κs = search needs
 
 returns-3 : tie.Need-returns-3
 returns-3 c =
@@ -142,20 +112,8 @@ add-sized c = omega (arith, stored-rows (form (c .before .before .before .before
 add-sized-2 : tie.Need-add-sized-2
 add-sized-2 c = omega (arith, stored-rows (form (c .before .before .before .before .before .before .before .before .before .before .before)) .low .ports, short (c .before .before .before))
 
-sized-requires : tie.Need-sized-requires
-sized-requires c κs = search needs
-
 result-size-requires : tie.Need-result-size-requires
 result-size-requires c κs = rw (c .sized .ensures)
-
-enum-known-size : tie.Need-enum-known-size
-enum-known-size c = search needs
-
-enum-told-4 : tie.Need-enum-told-4
-enum-told-4 c = search needs
-
-refusal-requires-4 : tie.Need-refusal-requires-4
-refusal-requires-4 c κs = search needs
 
 returns-5 : tie.Need-returns-5
 returns-5 c = ends (c .before .before .before) .refuses (c .before .enum-told4 .given .1) (c .refusal4 .ensures)
@@ -185,30 +143,30 @@ pub new-edge-spec : {M : Type 1} → statement M
 new-edge-spec =
     tie.close
     (tie.spec
-    read-requires
-    enum-known-graph
-    enum-told
-    refusal-requires
+    (λ c κs. search needs)
+    (λ c. search needs)
+    (λ c. search needs)
+    (λ c κs. search needs)
     returns
     id-list-requires
-    enum-known-from
-    enum-told-2
-    refusal-requires-2
+    (λ c. search needs)
+    (λ c. search needs)
+    (λ c κs. search needs)
     returns-2
     id-list-requires-2
-    enum-known-to
-    enum-told-3
-    refusal-requires-3
+    (λ c. search needs)
+    (λ c. search needs)
+    (λ c κs. search needs)
     returns-3
     add-new
     returns-4
     add-sized
     add-sized-2
-    sized-requires
+    (λ c κs. search needs)
     result-size-requires
-    enum-known-size
-    enum-told-4
-    refusal-requires-4
+    (λ c. search needs)
+    (λ c. search needs)
+    (λ c κs. search needs)
     returns-5
     put-new-edge-requires
     same-length

@@ -33,18 +33,6 @@ ends c =
     graph-ends (now (a .out)) _ _ (c .before .sized .ensures ∙ new-node-sizes s (a .label)) (c .result-size .ensures)
     (now (a .src)) (λ f. newNodeStep (a .label)) s (new-node-next s (a .label))
 
-read-requires : tie.Need-read-requires
-read-requires c κs = search needs
-
-enum-known-graph : tie.Need-enum-known-graph
-enum-known-graph c = search needs
-
-enum-told : tie.Need-enum-told
-enum-told c = search needs
-
-refusal-requires : tie.Need-refusal-requires
-refusal-requires c κs = search needs
-
 returns : tie.Need-returns
 returns c =
     let a = c .before .before .before .before .before .before .args in
@@ -55,20 +43,8 @@ returns c =
 add-sized : tie.Need-add-sized
 add-sized c = omega (arith, stored-rows (form (c .before)) .low .nodes)
 
-sized-requires : tie.Need-sized-requires
-sized-requires c κs = search needs
-
 result-size-requires : tie.Need-result-size-requires
 result-size-requires c κs = rw (c .sized .ensures)
-
-enum-known-size : tie.Need-enum-known-size
-enum-known-size c = search needs
-
-enum-told-2 : tie.Need-enum-told-2
-enum-told-2 c = search needs
-
-refusal-requires-2 : tie.Need-refusal-requires-2
-refusal-requires-2 c κs = search needs
 
 returns-2 : tie.Need-returns-2
 returns-2 c = ends (c .before .before .before) .refuses (c .before .enum-told2 .given .1) (c .refusal2 .ensures)
@@ -88,17 +64,17 @@ pub new-node-spec : {M : Type 1} → statement M
 new-node-spec =
     tie.close
     (tie.spec
-    read-requires
-    enum-known-graph
-    enum-told
-    refusal-requires
+    (λ c κs. search needs)
+    (λ c. search needs)
+    (λ c. search needs)
+    (λ c κs. search needs)
     returns
     add-sized
-    sized-requires
+    (λ c κs. search needs)
     result-size-requires
-    enum-known-size
-    enum-told-2
-    refusal-requires-2
+    (λ c. search needs)
+    (λ c. search needs)
+    (λ c κs. search needs)
     returns-2
     put-new-node-requires
     same-length

@@ -61,36 +61,12 @@ ends c =
     (now (a .src)) (λ f. newOperationStep (a .label) (now (a .sources)) (now (a .targets))) s
     (new-operation-next s (a .label) (now (a .sources)) (now (a .targets)) (p .answers) (q .answers))
 
-read-requires : tie.Need-read-requires
-read-requires c κs = search needs
-
-enum-known-graph : tie.Need-enum-known-graph
-enum-known-graph c = search needs
-
-enum-told : tie.Need-enum-told
-enum-told c = search needs
-
-refusal-requires : tie.Need-refusal-requires
-refusal-requires c κs = search needs
-
 returns : tie.Need-returns
 returns c =
     let a = c .before .before .before .before .before .before .before .before .args in
     let b = now (a .src) in
     graph-unread b (λ f. newOperationStep (a .label) (now (a .sources)) (now (a .targets))) (now (a .out)) _
     (unread b (c .before .before .before .read .result) (c .before .before .before .read .ensures) _ (passed-read (c .before .enum-told .given .1) (c .refusal .ensures)))
-
-label-list-requires : tie.Need-label-list-requires
-label-list-requires c κs = search needs
-
-enum-known-from : tie.Need-enum-known-from
-enum-known-from c = search needs
-
-enum-told-2 : tie.Need-enum-told-2
-enum-told-2 c = search needs
-
-refusal-requires-2 : tie.Need-refusal-requires-2
-refusal-requires-2 c κs = search needs
 
 returns-2 : tie.Need-returns-2
 returns-2 c =
@@ -99,18 +75,6 @@ returns-2 c =
     graph-stopped (now (a .src)) (λ f. newOperationStep (a .label) (now (a .sources)) (now (a .targets))) (now (a .out)) s _
     (new-operation-sources s (a .label) (now (a .sources)) (now (a .targets))
     (list-refused _ _ (c .before .before .before .label-list .ensures) _ (passed-on (c .before .enum-told2 .given .1) (c .refusal2 .ensures))))
-
-label-list-requires-2 : tie.Need-label-list-requires-2
-label-list-requires-2 c κs = search needs
-
-enum-known-to : tie.Need-enum-known-to
-enum-known-to c = search needs
-
-enum-told-3 : tie.Need-enum-told-3
-enum-told-3 c = search needs
-
-refusal-requires-3 : tie.Need-refusal-requires-3
-refusal-requires-3 c κs = search needs
 
 returns-3 : tie.Need-returns-3
 returns-3 c =
@@ -132,20 +96,8 @@ add-sized-2 c = omega (arith, stored-rows (form (c .before .before .before .befo
 add-sized-3 : tie.Need-add-sized-3
 add-sized-3 c = omega (arith, stored-rows (form (c .before .before .before .before .before .before .before .before .before .before .before)) .low .ports, short (c .before .before .before))
 
-sized-requires : tie.Need-sized-requires
-sized-requires c κs = search needs
-
 result-size-requires : tie.Need-result-size-requires
 result-size-requires c κs = rw (c .sized .ensures)
-
-enum-known-size : tie.Need-enum-known-size
-enum-known-size c = search needs
-
-enum-told-4 : tie.Need-enum-told-4
-enum-told-4 c = search needs
-
-refusal-requires-4 : tie.Need-refusal-requires-4
-refusal-requires-4 c κs = search needs
 
 returns-4 : tie.Need-returns-4
 returns-4 c = ends (c .before .before .before) .refuses (c .before .enum-told4 .given .1) (c .refusal4 .ensures)
@@ -173,30 +125,30 @@ pub new-operation-spec : {M : Type 1} → statement M
 new-operation-spec =
     tie.close
     (tie.spec
-    read-requires
-    enum-known-graph
-    enum-told
-    refusal-requires
+    (λ c κs. search needs)
+    (λ c. search needs)
+    (λ c. search needs)
+    (λ c κs. search needs)
     returns
-    label-list-requires
-    enum-known-from
-    enum-told-2
-    refusal-requires-2
+    (λ c κs. search needs)
+    (λ c. search needs)
+    (λ c. search needs)
+    (λ c κs. search needs)
     returns-2
-    label-list-requires-2
-    enum-known-to
-    enum-told-3
-    refusal-requires-3
+    (λ c κs. search needs)
+    (λ c. search needs)
+    (λ c. search needs)
+    (λ c κs. search needs)
     returns-3
     add-new
     add-sized
     add-sized-2
     add-sized-3
-    sized-requires
+    (λ c κs. search needs)
     result-size-requires
-    enum-known-size
-    enum-told-4
-    refusal-requires-4
+    (λ c. search needs)
+    (λ c. search needs)
+    (λ c κs. search needs)
     returns-4
     put-new-operation-requires
     same-length

@@ -13,9 +13,6 @@ use Rattle.hypergraph.proofs.Held.{held}
 use Rattle.hypergraph.proofs.put_head.Statement.{statement}
 use Rattle.hypergraph.proofs.put_head.Tie as tie
 
-put-header-requires : tie.Need-put-header-requires
-put-header-requires c κs = search needs
-
 label-row-requires : tie.Need-label-row-requires
 label-row-requires c κs = c .before .before .before .before .before .before .before .pre .0 .low
 
@@ -36,7 +33,7 @@ pub put-head-spec : {M : Type 1} → statement M
 put-head-spec =
     tie.close
     (tie.spec
-    put-header-requires
+    (λ c κs. search needs)
     label-row-requires
     copy-numbers-requires
     same-length

@@ -8,27 +8,6 @@ use Rattle.hypergraph.proofs.Held.{held}
 use Rattle.hypergraph.proofs.put_rest.Statement.{statement}
 use Rattle.hypergraph.proofs.put_rest.Tie as tie
 
-mul-n : tie.Need-mul-n
-mul-n c = search needs
-
-add-n : tie.Need-add-n
-add-n c = search needs
-
-mul-n-2 : tie.Need-mul-n-2
-mul-n-2 c = search needs
-
-add-n-2 : tie.Need-add-n-2
-add-n-2 c = search needs
-
-add-n-3 : tie.Need-add-n-3
-add-n-3 c = search needs
-
-add-n-4 : tie.Need-add-n-4
-add-n-4 c = search needs
-
-sub-n : tie.Need-sub-n
-sub-n c = search needs
-
 body-row-requires : tie.Need-body-row-requires
 body-row-requires c κs = c .before .before .before .before .before .before .before .before .pre .1 .low
 
@@ -51,13 +30,13 @@ pub put-rest-spec : {M : Type 1} → statement M
 put-rest-spec =
     tie.close
     (tie.spec
-    mul-n
-    add-n
-    mul-n-2
-    add-n-2
-    add-n-3
-    add-n-4
-    sub-n
+    (λ c. search needs)
+    (λ c. search needs)
+    (λ c. search needs)
+    (λ c. search needs)
+    (λ c. search needs)
+    (λ c. search needs)
+    (λ c. search needs)
     body-row-requires
     body-row-requires-2
     copy-numbers-requires

@@ -44,36 +44,12 @@ ends c =
     (now (a .src)) (λ f. unifyStep (a .v) (a .w)) s
     (unify-next s (a .v) (a .w) (first (c .before .before .before .before .before .before .before)) (second (c .before .before .before)))
 
-read-requires : tie.Need-read-requires
-read-requires c κs = search needs
-
-enum-known-graph : tie.Need-enum-known-graph
-enum-known-graph c = search needs
-
-enum-told : tie.Need-enum-told
-enum-told c = search needs
-
-refusal-requires : tie.Need-refusal-requires
-refusal-requires c κs = search needs
-
 returns : tie.Need-returns
 returns c =
     let a = c .before .before .before .before .before .before .args in
     let b = now (a .src) in
     graph-unread b (λ f. unifyStep (a .v) (a .w)) (now (a .out)) _
     (unread b (c .before .before .before .read .result) (c .before .before .before .read .ensures) _ (passed-read (c .before .enum-told .given .1) (c .refusal .ensures)))
-
-known-requires : tie.Need-known-requires
-known-requires c κs = search needs
-
-enum-known-first : tie.Need-enum-known-first
-enum-known-first c = search needs
-
-enum-told-2 : tie.Need-enum-told-2
-enum-told-2 c = search needs
-
-refusal-requires-2 : tie.Need-refusal-requires-2
-refusal-requires-2 c κs = search needs
 
 returns-2 : tie.Need-returns-2
 returns-2 c =
@@ -82,18 +58,6 @@ returns-2 c =
     graph-stopped (now (a .src)) (λ f. unifyStep (a .v) (a .w)) (now (a .out)) s _
     (unify-first s (a .v) (a .w)
     (number-refused _ _ (c .before .before .before .known .ensures) _ (passed-on (c .before .enum-told2 .given .1) (c .refusal2 .ensures))))
-
-known-requires-2 : tie.Need-known-requires-2
-known-requires-2 c κs = search needs
-
-enum-known-second : tie.Need-enum-known-second
-enum-known-second c = search needs
-
-enum-told-3 : tie.Need-enum-told-3
-enum-told-3 c = search needs
-
-refusal-requires-3 : tie.Need-refusal-requires-3
-refusal-requires-3 c κs = search needs
 
 returns-3 : tie.Need-returns-3
 returns-3 c =
@@ -106,20 +70,8 @@ returns-3 c =
 add-sized : tie.Need-add-sized
 add-sized c = omega (arith, stored-rows (form (c .before .before .before .before .before .before .before .before .before)) .low .pairs)
 
-sized-requires : tie.Need-sized-requires
-sized-requires c κs = search needs
-
 result-size-requires : tie.Need-result-size-requires
 result-size-requires c κs = rw (c .sized .ensures)
-
-enum-known-size : tie.Need-enum-known-size
-enum-known-size c = search needs
-
-enum-told-4 : tie.Need-enum-told-4
-enum-told-4 c = search needs
-
-refusal-requires-4 : tie.Need-refusal-requires-4
-refusal-requires-4 c κs = search needs
 
 returns-4 : tie.Need-returns-4
 returns-4 c = ends (c .before .before .before) .refuses (c .before .enum-told4 .given .1) (c .refusal4 .ensures)
@@ -146,27 +98,27 @@ pub unify-spec : {M : Type 1} → statement M
 unify-spec =
     tie.close
     (tie.spec
-    read-requires
-    enum-known-graph
-    enum-told
-    refusal-requires
+    (λ c κs. search needs)
+    (λ c. search needs)
+    (λ c. search needs)
+    (λ c κs. search needs)
     returns
-    known-requires
-    enum-known-first
-    enum-told-2
-    refusal-requires-2
+    (λ c κs. search needs)
+    (λ c. search needs)
+    (λ c. search needs)
+    (λ c κs. search needs)
     returns-2
-    known-requires-2
-    enum-known-second
-    enum-told-3
-    refusal-requires-3
+    (λ c κs. search needs)
+    (λ c. search needs)
+    (λ c. search needs)
+    (λ c κs. search needs)
     returns-3
     add-sized
-    sized-requires
+    (λ c κs. search needs)
     result-size-requires
-    enum-known-size
-    enum-told-4
-    refusal-requires-4
+    (λ c. search needs)
+    (λ c. search needs)
+    (λ c κs. search needs)
     returns-4
     put-unified-requires
     same-length

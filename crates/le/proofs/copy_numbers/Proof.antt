@@ -13,32 +13,11 @@ use Rattle.le.proofs.Rows.{puts-run}
 use Rattle.le.proofs.copy_numbers.Statement.{statement}
 use Rattle.le.proofs.copy_numbers.Tie as tie
 
-mul-copy : tie.Need-mul-copy
-mul-copy c = search needs
-
-add-copy : tie.Need-add-copy
-add-copy c = search needs
-
-mul-copy-2 : tie.Need-mul-copy-2
-mul-copy-2 c = search needs
-
-add-copy-2 : tie.Need-add-copy-2
-add-copy-2 c = search needs
-
-mul-copy-3 : tie.Need-mul-copy-3
-mul-copy-3 c = search needs
-
 copy-requires : tie.Need-copy-requires
 copy-requires c κs =
     let a = c .before .before .before .before .before .before .before .before .args in
     let e : a .n * a .to .width ≡ a .n * a .from .width = ap (λ (w : ℕ). a .n * w) (c .before .before .before .before .if1 .taken) in
     (omega arith, omega arith)
-
-copy-each-requires : tie.Need-copy-each-requires
-copy-each-requires c κs = search needs
-
-same-length : tie.Need-same-length
-same-length c = search needs
 
 returns : tie.Need-returns
 returns c =
@@ -48,24 +27,18 @@ returns c =
     c .before .before .copy .ensures ∙ ap (λ (w : ℕ). sets (now (a .d)) (placeIn (a .to) (a .k)) (take (a .n * w) (drop (placeIn (a .from) (a .j)) (now (a .s))))) (sym e)
     ∙ sym (puts-run (now (a .d)) (now (a .s)) (a .to) (a .from) (a .k) (a .j) (a .n) clean e (c .before .before .before .before .before .before .before .before .before .before .before .pre .1))
 
-same-length-2 : tie.Need-same-length-2
-same-length-2 c = search needs
-
-returns-2 : tie.Need-returns-2
-returns-2 c = search needs
-
 pub copy-numbers-spec : {M : Type 1} → statement M
 copy-numbers-spec =
     tie.close
     (tie.spec
-    mul-copy
-    add-copy
-    mul-copy-2
-    add-copy-2
-    mul-copy-3
+    (λ c. search needs)
+    (λ c. search needs)
+    (λ c. search needs)
+    (λ c. search needs)
+    (λ c. search needs)
     copy-requires
-    copy-each-requires
-    same-length
+    (λ c κs. search needs)
+    (λ c. search needs)
     returns
-    same-length-2
-    returns-2)
+    (λ c. search needs)
+    (λ c. search needs))

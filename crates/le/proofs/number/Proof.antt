@@ -31,9 +31,6 @@ add-get2 c = let h = inside-2 (c .before) in omega arith
 get2-requires : tie.Need-get2-requires
 get2-requires c κs = let h = inside-2 (c .before) in omega arith
 
-cast-result : tie.Need-cast-result
-cast-result c = search needs
-
 mul-get4 : tie.Need-mul-get4
 mul-get4 c = let h = inside-4 c in omega arith
 
@@ -42,9 +39,6 @@ add-get4 c = let h = inside-4 (c .before) in omega arith
 
 get4-requires : tie.Need-get4-requires
 get4-requires c κs = let h = inside-4 (c .before) in omega arith
-
-cast-result-2 : tie.Need-cast-result-2
-cast-result-2 c = search needs
 
 returns : tie.Need-returns
 unfolding entry
@@ -65,10 +59,10 @@ number-spec =
     mul-get2
     add-get2
     get2-requires
-    cast-result
+    (λ c. search needs)
     mul-get4
     add-get4
     get4-requires
-    cast-result-2
+    (λ c. search needs)
     returns
     returns-2)

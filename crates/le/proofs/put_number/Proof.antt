@@ -28,9 +28,6 @@ mul-put2 c = let h = inside-2 (c .before) in omega arith
 add-put2 : tie.Need-add-put2
 add-put2 c = let h = inside-2 (c .before .before) in omega arith
 
-cast-put2 : tie.Need-cast-put2
-cast-put2 c = search needs
-
 put2-requires : tie.Need-put2-requires
 put2-requires c κs = let h = inside-2 (c .before .before) in omega arith
 
@@ -40,23 +37,14 @@ mul-put4 c = let h = inside-4 (c .before) in omega arith
 add-put4 : tie.Need-add-put4
 add-put4 c = let h = inside-4 (c .before .before) in omega arith
 
-cast-put4 : tie.Need-cast-put4
-cast-put4 c = search needs
-
 put4-requires : tie.Need-put4-requires
 put4-requires c κs = let h = inside-4 (c .before .before) in omega arith
-
-same-length : tie.Need-same-length
-same-length c = search needs
 
 returns : tie.Need-returns
 returns c =
     let a = c .before .before .before .before .before .before .before .before .args in
     c .before .before .put2 .ensures
     ∙ ap (λ (w : ℕ). sets (now (a .d)) (a .r .at + a .k * w) (bytes w (a .v))) (sym (c .before .before .before .before .before .if1 .taken)) ∙ sym (puts-one (now (a .d)) (a .r) (a .k) (a .v))
-
-same-length-2 : tie.Need-same-length-2
-same-length-2 c = search needs
 
 returns-2 : tie.Need-returns-2
 returns-2 c =
@@ -70,13 +58,13 @@ put-number-spec =
     (tie.spec
     mul-put2
     add-put2
-    cast-put2
+    (λ c. search needs)
     put2-requires
     mul-put4
     add-put4
-    cast-put4
+    (λ c. search needs)
     put4-requires
-    same-length
+    (λ c. search needs)
     returns
-    same-length-2
+    (λ c. search needs)
     returns-2)

@@ -13,35 +13,8 @@ use native.Mathlib.Omega.{arith}
 use Rattle.links.proofs.put_chains.Statement.{statement}
 use Rattle.links.proofs.put_chains.Tie as tie
 
-mul-head : tie.Need-mul-head
-mul-head c = search needs
-
-add-head : tie.Need-add-head
-add-head c = search needs
-
-mul-tail : tie.Need-mul-tail
-mul-tail c = search needs
-
-add-tail : tie.Need-add-tail
-add-tail c = search needs
-
-add-tail-2 : tie.Need-add-tail-2
-add-tail-2 c = search needs
-
-chain-length-requires : tie.Need-chain-length-requires
-chain-length-requires c κs = search needs
-
-chain-length-requires-2 : tie.Need-chain-length-requires-2
-chain-length-requires-2 c κs = search needs
-
-cast-put-two : tie.Need-cast-put-two
-cast-put-two c = search needs
-
 add-put-two : tie.Need-add-put-two
 add-put-two c = omega (arith, at-most-one (c .before .before .before .before .before .args .first), c .before .before .chain-length .ensures .1)
-
-cast-put-two-2 : tie.Need-cast-put-two-2
-cast-put-two-2 c = search needs
 
 add-put-two-2 : tie.Need-add-put-two-2
 add-put-two-2 c = omega (arith, at-most-one (not (c .before .before .before .before .before .args .first)), c .before .chain-length2 .ensures .1)
@@ -87,9 +60,6 @@ put-side-requires-2 c κs =
       S .pre .1,
     )
 
-same-length : tie.Need-same-length
-same-length c = search needs
-
 returns : tie.Need-returns
 returns c = λ A B h k.
     let a = c .before .before .before .before .before .before .before .before .before .before .before .before .before .before .before .before .args in
@@ -106,20 +76,20 @@ pub put-chains-spec : {M : Type 1} → statement M
 put-chains-spec =
     tie.close
     (tie.spec
-    mul-head
-    add-head
-    mul-tail
-    add-tail
-    add-tail-2
-    chain-length-requires
-    chain-length-requires-2
-    cast-put-two
+    (λ c. search needs)
+    (λ c. search needs)
+    (λ c. search needs)
+    (λ c. search needs)
+    (λ c. search needs)
+    (λ c κs. search needs)
+    (λ c κs. search needs)
+    (λ c. search needs)
     add-put-two
-    cast-put-two-2
+    (λ c. search needs)
     add-put-two-2
     put-two-requires
     add-put-side
     put-side-requires
     put-side-requires-2
-    same-length
+    (λ c. search needs)
     returns)

@@ -54,9 +54,6 @@ put-chains-requires-2 c κs =
     let next = p .ensures (fresh 0 id) (fresh 1 id) (t 0 (omega arith)) (t 1 (omega arith)) .next in
     ((fresh 2 id, fresh 3 id, t 2 (omega arith), t 3 (omega arith), holds-same (holds-less (S .pre .2 .2) _ (omega arith)) _ (p .kept .1 .1 .1 .1 .1 .0)), S .pre .1)
 
-same-length : tie.Need-same-length
-same-length c = search needs
-
 returns-2 : tie.Need-returns-2
 returns-2 c = λ fresh t.
     let S = c .before .before .before .before .before .before .before .before .before .before .before .before in
@@ -77,5 +74,5 @@ put-spider-spec =
     returns
     put-chains-requires
     put-chains-requires-2
-    same-length
+    (λ c. search needs)
     returns-2)

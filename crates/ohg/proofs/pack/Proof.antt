@@ -12,9 +12,6 @@ use Rattle.ohg.proofs.pack.Tie as tie
 fits : (c : tie.After-known-told) → Packs (Done (c .before .x .given .0 .0) (c .before .x .given .0 .1 .0))
 fits c = subst Packs (c .before .x .given .1) (c .before .before .before .pre)
 
-enum-known-x : tie.Need-enum-known-x
-enum-known-x c = search needs
-
 mul-result : tie.Need-mul-result
 mul-result c = let h = fits c in omega arith
 
@@ -23,12 +20,6 @@ mul-result-2 c = let h = fits c in omega arith
 
 add-result : tie.Need-add-result
 add-result c = let h = fits c in omega arith
-
-enum-known-x-2 : tie.Need-enum-known-x-2
-enum-known-x-2 c = search needs
-
-cast-result : tie.Need-cast-result
-cast-result c = search needs
 
 returns : tie.Need-returns
 returns c = omega (arith, ap packedOutcome (c .before .x .given .1))
@@ -40,11 +31,11 @@ pub pack-spec : {M : Type 1} → statement M
 pack-spec =
     tie.close
     (tie.spec
-    enum-known-x
+    (λ c. search needs)
     mul-result
     mul-result-2
     add-result
-    enum-known-x-2
-    cast-result
+    (λ c. search needs)
+    (λ c. search needs)
     returns
     returns-2)

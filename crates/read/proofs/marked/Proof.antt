@@ -9,20 +9,11 @@ use Rattle.graph.proofs.Verdicts.{mark-by-byte}
 use Rattle.read.proofs.marked.Statement.{statement}
 use Rattle.read.proofs.marked.Tie as tie
 
-shared-slice-read-if1 : tie.Need-shared-slice-read-if1
-shared-slice-read-if1 c = search needs
-
 returns : tie.Need-returns
 returns c = sym (mark-by-byte (now (c .before .before .args .s)) (omega arith) ∙ rw (ne-eqb _ _ (c .if1 .taken)))
 
-shared-slice-read-if2 : tie.Need-shared-slice-read-if2
-shared-slice-read-if2 c = search needs
-
 returns-2 : tie.Need-returns-2
 returns-2 c = sym (mark-by-byte (now (c .before .before .before .before .args .s)) (omega arith) ∙ rw (eq-eqb _ _ (c .before .before .if1 .left), ne-eqb _ _ (c .if2 .taken)))
-
-shared-slice-read-result : tie.Need-shared-slice-read-result
-shared-slice-read-result c = search needs
 
 returns-3 : tie.Need-returns-3
 returns-3 c = sym (mark-by-byte (now (c .before .before .before .before .before .args .s)) (omega arith) ∙ rw (eq-eqb _ _ (c .before .before .before .if1 .left), eq-eqb _ _ (c .before .if2 .left)))
@@ -31,9 +22,9 @@ pub marked-spec : {M : Type 1} → statement M
 marked-spec =
     tie.close
     (tie.spec
-    shared-slice-read-if1
+    (λ c. search needs)
     returns
-    shared-slice-read-if2
+    (λ c. search needs)
     returns-2
-    shared-slice-read-result
+    (λ c. search needs)
     returns-3)

@@ -1,6 +1,6 @@
 -- `read::ports_at` meets its contract.
 -- Assumes nothing.
-use mathlib.Core.Path.{_≡_, sym, ap, _∙_}
+use mathlib.Core.Path.{_≡_, ap}
 use Prim.Native.Nat.{ℕ, _+_}
 use native.Mathlib.Omega.{arith}
 use denote.Ref.{now}
@@ -11,32 +11,11 @@ use Rattle.le.proofs.Rows.{four}
 use Rattle.read.proofs.ports_at.Statement.{statement}
 use Rattle.read.proofs.ports_at.Tie as tie
 
-get4-requires : tie.Need-get4-requires
-get4-requires c κs = search needs
-
-cast-both : tie.Need-cast-both
-cast-both c = search needs
-
-add-result : tie.Need-add-result
-add-result c = search needs
-
 get4-requires-2 : tie.Need-get4-requires-2
 get4-requires-2 c κs = omega (arith, four (c .before .before .pre .wide) (c .if1 .left))
 
-cast-result : tie.Need-cast-result
-cast-result c = search needs
-
-add-get4 : tie.Need-add-get4
-add-get4 c = search needs
-
 get4-requires-3 : tie.Need-get4-requires-3
 get4-requires-3 c κs = omega (arith, four (c .before .before .before .pre .wide) (c .before .if1 .left))
-
-cast-result-2 : tie.Need-cast-result-2
-cast-result-2 c = search needs
-
-add-result-2 : tie.Need-add-result-2
-add-result-2 c = search needs
 
 returns : tie.Need-returns
 returns c =
@@ -70,14 +49,14 @@ pub ports-at-spec : {M : Type 1} → statement M
 ports-at-spec =
     tie.close
     (tie.spec
-    get4-requires
-    cast-both
-    add-result
+    (λ c κs. search needs)
+    (λ c. search needs)
+    (λ c. search needs)
     get4-requires-2
-    cast-result
-    add-get4
+    (λ c. search needs)
+    (λ c. search needs)
     get4-requires-3
-    cast-result-2
-    add-result-2
+    (λ c. search needs)
+    (λ c. search needs)
     returns
     returns-2)

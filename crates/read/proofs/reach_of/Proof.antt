@@ -1,7 +1,7 @@
 -- `read::reach_of` meets its contract.
 -- Assumes nothing.
-use mathlib.Core.Path.{_≡_, sym, ap, _∙_}
-use Prim.Native.Nat.{ℕ, _+_, _<_, max}
+use mathlib.Core.Path.{_≡_, ap}
+use Prim.Native.Nat.{ℕ, _<_}
 use native.Mathlib.Omega.{arith}
 use lib.ListN.{length, drop}
 use denote.Ref.{now}
@@ -9,7 +9,7 @@ use borrow.Author.Needs.{needs}
 use Rattle.le.specs.Le.{numbers}
 use Rattle.le.specs.Rows.{rowAt, placeIn, span}
 use Rattle.le.proofs.Rows.{length-span}
-use Rattle.read.specs.Reach.{reach, highest}
+use Rattle.read.specs.Reach.{reach}
 use Rattle.read.proofs.Reach.{reach-highest}
 use Rattle.read.proofs.reach_of.Statement.{statement}
 use Rattle.read.proofs.reach_of.Tie as tie

@@ -9,7 +9,7 @@ use Rattle.form.specs.declared.Format.{Format}
 use Rattle.form.specs.declared.Reading.the-variants.{Refused}
 use Rattle.graph.specs.Answer.{answered}
 use Rattle.graph.specs.Read.{readVersion, readIn}
-use Rattle.graph.specs.Versions.{formatOf, read}
+use Rattle.graph.specs.Versions.{formatNumbered, read}
 use Rattle.form.proofs.Answers.{number-refused, number-answered}
 use Rattle.graph.proofs.Steps.{stops, goes}
 use Rattle.graph.proofs.Versions.{version-known}
@@ -29,20 +29,8 @@ numbered-so c =
 abbrev format : tie.After-f → Format
 format c = c .f .given .0 .0
 
-versioned-so : (c : tie.After-f) → formatOf (number (c .before .before .before .before)) ≡ answered (meant (format c))
-versioned-so c = version-read _ (format c) (sym (c .f .given .1) ∙ c .before .before .format-of .ensures)
-
-read-version-requires : tie.Need-read-version-requires
-read-version-requires c κs = search needs
-
-enum-known-version : tie.Need-enum-known-version
-enum-known-version c = search needs
-
-enum-told : tie.Need-enum-told
-enum-told c = search needs
-
-refusal-requires : tie.Need-refusal-requires
-refusal-requires c κs = search needs
+versioned-so : (c : tie.After-f) → formatNumbered (number (c .before .before .before .before)) ≡ answered (meant (format c))
+versioned-so c = version-read _ (format c) (sym (c .f .given .1) ∙ c .before .before .format-numbered .ensures)
 
 returns : tie.Need-returns
 unfolding read
@@ -51,17 +39,8 @@ returns c =
     let r = c .before .before .before .read-version in
     ap Refused (c .refusal .ensures ∙ ap refusalIn (x .1)) ∙ sym (ap reading (stops _ (number-refused _ (r .result) (r .ensures) (x .0 .0) (x .1))))
 
-format-of-requires : tie.Need-format-of-requires
-format-of-requires c κs = search needs
-
-enum-known-f : tie.Need-enum-known-f
-enum-known-f c = search needs
-
 read-in-requires : tie.Need-read-in-requires
 read-in-requires c κs = version-known _ _ (versioned-so (c .before)) .0 .usable
-
-enum-known-x : tie.Need-enum-known-x
-enum-known-x c = search needs
 
 returns-2 : tie.Need-returns-2
 unfolding read
@@ -76,20 +55,20 @@ unfolding read
 returns-3 c =
     let x = c .before .x .given in
     let e = c .before .before .before in
-    sym (ap reading (goes _ (numbered-so (e .before .before)) ∙ stops _ (version-refused _ (x .0 .0) (sym (x .1) ∙ e .format-of .ensures))))
+    sym (ap reading (goes _ (numbered-so (e .before .before)) ∙ stops _ (version-refused _ (x .0 .0) (sym (x .1) ∙ e .format-numbered .ensures))))
 
 pub read-spec : {M : Type 1} → statement M
 read-spec =
     tie.close
     (tie.spec
-    read-version-requires
-    enum-known-version
-    enum-told
-    refusal-requires
+    (λ c κs. search needs)
+    (λ c. search needs)
+    (λ c. search needs)
+    (λ c κs. search needs)
     returns
-    format-of-requires
-    enum-known-f
+    (λ c κs. search needs)
+    (λ c. search needs)
     read-in-requires
-    enum-known-x
+    (λ c. search needs)
     returns-2
     returns-3)

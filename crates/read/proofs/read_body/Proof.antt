@@ -25,32 +25,14 @@ after-labels c labels n =
     c .read-edges .ensures labels n
     ∙ ap (λ (at : ℕ). edgesStep (length (now (a .s))) (readEdges (meant (a .f)) 0 labels (drop at (now (a .s))))) (c .before .labels-end .ensures)
 
-mul-header : tie.Need-mul-header
-mul-header c = search needs
-
-add-header : tie.Need-add-header
-add-header c = search needs
-
 add-labels : tie.Need-add-labels
 add-labels c = let l = small (c .before .before .before .pre .2) in omega arith
-
-sub-if1 : tie.Need-sub-if1
-sub-if1 c = search needs
 
 mul-if1 : tie.Need-mul-if1
 mul-if1 c = let l = small (c .before .before .before .pre .2) in omega arith
 
 returns : tie.Need-returns
 returns c = let a = c .before .before .before .before .args in no-labels (meant (a .f)) (now (a .s)) (a .z) (omega arith)
-
-labels-end-requires : tie.Need-labels-end-requires
-labels-end-requires c κs = search needs
-
-read-edges-requires : tie.Need-read-edges-requires
-read-edges-requires c κs = search needs
-
-enum-known-ports : tie.Need-enum-known-ports
-enum-known-ports c = search needs
 
 read-lists-requires : tie.Need-read-lists-requires
 read-lists-requires c κs =
@@ -60,9 +42,6 @@ read-lists-requires c κs =
     let x = c .before .ports .given in
     let w = went (meant (a .f)) (now (a .s)) (a .z) (omega arith) (s .pre .0) (e .read-edges .result) (after-labels e) (x .0 .0) (x .0 .1 .0) (x .0 .1 .1 .0) (x .1) in
     (w .inside, s .pre .1, s .pre .2)
-
-enum-known-x : tie.Need-enum-known-x
-enum-known-x c = search needs
 
 returns-2 : tie.Need-returns-2
 returns-2 c =
@@ -85,16 +64,16 @@ pub read-body-spec : {M : Type 1} → statement M
 read-body-spec =
     tie.close
     (tie.spec
-    mul-header
-    add-header
+    (λ c. search needs)
+    (λ c. search needs)
     add-labels
-    sub-if1
+    (λ c. search needs)
     mul-if1
     returns
-    labels-end-requires
-    read-edges-requires
-    enum-known-ports
+    (λ c κs. search needs)
+    (λ c κs. search needs)
+    (λ c. search needs)
     read-lists-requires
-    enum-known-x
+    (λ c. search needs)
     returns-2
     returns-3)

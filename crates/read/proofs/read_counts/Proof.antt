@@ -11,7 +11,7 @@ use Rattle.graph.specs.Graph.{countsFit}
 use Rattle.graph.specs.Read.{countsAt}
 use Rattle.graph.proofs.Verdicts.{header-5, header-4, header-0}
 use Rattle.le.proofs.Rows.{wide-some}
-use Rattle.read.specs.Steps.{headed}
+use Rattle.read.specs.Steps.{headerRead}
 use Rattle.read.proofs.read_counts.Statement.{statement}
 use Rattle.read.proofs.read_counts.Tie as tie
 
@@ -32,7 +32,7 @@ add-if1 : tie.Need-add-if1
 add-if1 c = let l = wide-some (c .before .before .pre) in omega arith
 
 returns : tie.Need-returns
-returns c = let a = c .before .before .before .args in sym (ap (headed (a .f .width)) (header-5 (meant (a .f)) (now (a .s)) (omega arith)))
+returns c = let a = c .before .before .before .args in sym (ap (headerRead (a .f .width)) (header-5 (meant (a .f)) (now (a .s)) (omega arith)))
 
 counts-at-requires : tie.Need-counts-at-requires
 counts-at-requires c κs = search needs
@@ -43,13 +43,13 @@ counts-fit-requires c κs = search needs
 returns-2 : tie.Need-returns-2
 returns-2 c =
     let a = c .before .before .before .before .before .before .args in
-    sym (ap (headed (a .f .width)) (header-4 (meant (a .f)) (now (a .s)) (omega arith) (tested (c .before) ∙ not-true _ (c .if2 .taken))))
+    sym (ap (headerRead (a .f .width)) (header-4 (meant (a .f)) (now (a .s)) (omega arith) (tested (c .before) ∙ not-true _ (c .if2 .taken))))
 
 returns-3 : tie.Need-returns-3
 returns-3 c =
     let a = c .before .before .before .before .before .before .args in
     ap Sized (counts (c .before .before))
-    ∙ sym (ap (headed (a .f .width)) (header-0 (meant (a .f)) (now (a .s)) (omega arith) (tested (c .before) ∙ not-false _ (c .if2 .left))))
+    ∙ sym (ap (headerRead (a .f .width)) (header-0 (meant (a .f)) (now (a .s)) (omega arith) (tested (c .before) ∙ not-false _ (c .if2 .left))))
 
 pub read-counts-spec : {M : Type 1} → statement M
 read-counts-spec =

@@ -22,9 +22,6 @@ counted : (c : tie.After-ports-at) → let a = c .before .before .before .args i
     entries c ≡ numberAt (a .f .width) (now (a .s)) (a .at) + numberAt (a .f .width) (now (a .s)) (a .at + a .f .width)
 counted c = c .ports-at .ensures .0
 
-sub-left : tie.Need-sub-left
-sub-left c = search needs
-
 mul-if1 : tie.Need-mul-if1
 mul-if1 c = let l = small (c .before .pre .2) in omega arith
 
@@ -36,12 +33,6 @@ ports-at-requires c κs = record { wide = c .before .before .pre .2 .width; insi
 
 add-ports : tie.Need-add-ports
 add-ports c = let l = small (c .before .before .before .pre .2) in omega arith
-
-mul-rest : tie.Need-mul-rest
-mul-rest c = search needs
-
-sub-rest : tie.Need-sub-rest
-sub-rest c = search needs
 
 mul-bytes : tie.Need-mul-bytes
 mul-bytes c =
@@ -60,15 +51,6 @@ returns-3 c label =
     let a = d .before .before .before .args in
     short (meant (a .f)) (now (a .s)) (a .at) (a .sum) (a .bound) (omega arith) label (entries d) (counted d) (omega arith) (omega arith) (omega arith)
 
-mul-ids-at : tie.Need-mul-ids-at
-mul-ids-at c = search needs
-
-add-ids-at : tie.Need-add-ids-at
-add-ids-at c = search needs
-
-ids-at-requires : tie.Need-ids-at-requires
-ids-at-requires c κs = search needs
-
 returns-4 : tie.Need-returns-4
 returns-4 c label =
     let d = c .before .before .before in
@@ -82,17 +64,17 @@ pub read-edge-spec : {M : Type 1} → statement M
 read-edge-spec =
     tie.close
     (tie.spec
-    sub-left
+    (λ c. search needs)
     mul-if1
     returns
     ports-at-requires
     add-ports
-    mul-rest
-    sub-rest
+    (λ c. search needs)
+    (λ c. search needs)
     mul-bytes
     returns-2
     returns-3
-    mul-ids-at
-    add-ids-at
-    ids-at-requires
+    (λ c. search needs)
+    (λ c. search needs)
+    (λ c κs. search needs)
     returns-4)

@@ -20,9 +20,6 @@ add-ids c = let l = small (c .before .before .before .pre .2) in omega arith
 add-ids-2 : tie.Need-add-ids-2
 add-ids-2 c = let l = small (c .before .before .before .before .pre .2) in omega arith
 
-sub-if1 : tie.Need-sub-if1
-sub-if1 c = search needs
-
 mul-if1 : tie.Need-mul-if1
 mul-if1 c =
     let e = c .before .before .before .before .before in
@@ -35,9 +32,6 @@ returns : tie.Need-returns
 returns c body edges e p q =
     let a = c .before .before .before .before .before .before .args in
     other-length (meant (a .f)) (now (a .s)) (a .at) (a .z) (a .ports) (a .bound) body edges e p q (λ h. c .if1 .taken h)
-
-reach-of-requires : tie.Need-reach-of-requires
-reach-of-requires c κs = search needs
 
 returns-2 : tie.Need-returns-2
 returns-2 c body edges e p q =
@@ -58,9 +52,9 @@ read-lists-spec =
     mul-ids
     add-ids
     add-ids-2
-    sub-if1
+    (λ c. search needs)
     mul-if1
     returns
-    reach-of-requires
+    (λ c κs. search needs)
     returns-2
     returns-3)

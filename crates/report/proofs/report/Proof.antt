@@ -45,24 +45,6 @@ drawing c =
     text-done (now (a .src)) (known .before .graph .given .0 .0) (form known) (now (a .list)) (length (now (a .room))) (start .pre .0) (start .pre .1)
     (r .result) (r .last .1 .0) (r .ensures) (x .0 .0) (x .0 .1 .0) (x .1)
 
-read-requires : tie.Need-read-requires
-read-requires c κs = search needs
-
-enum-known-graph : tie.Need-enum-known-graph
-enum-known-graph c = search needs
-
-enum-told : tie.Need-enum-told
-enum-told c = search needs
-
-refusal-requires : tie.Need-refusal-requires
-refusal-requires c κs = search needs
-
-put-refusal-requires : tie.Need-put-refusal-requires
-put-refusal-requires c κs = search needs
-
-same-length : tie.Need-same-length
-same-length c = search needs
-
 returns : tie.Need-returns
 returns c =
     let a = c .before .before .before .before .before .before .before .before .before .before .before .before .args in
@@ -73,29 +55,8 @@ returns c =
     ∙ text-unread (now (a .src)) (meantBy (x .0 .0)) (unread (now (a .src)) (r .result) (r .ensures) (x .0 .0) (x .1)) in
     (subst (λ (t : List ℕ). Printed (now (a .out)) 0 t (p .last .0) (p .result)) e (p .ensures .0), p .ensures .1)
 
-cycle-breaking-nodes-requires : tie.Need-cycle-breaking-nodes-requires
-cycle-breaking-nodes-requires c κs = search needs
-
-enum-known-choice : tie.Need-enum-known-choice
-enum-known-choice c = search needs
-
 put-drawing-requires : tie.Need-put-drawing-requires
 put-drawing-requires c κs = let d = drawing (c .before .before) in (d .few, d .held, search needs)
-
-enum-known-choice-2 : tie.Need-enum-known-choice-2
-enum-known-choice-2 c = search needs
-
-put-refusal-requires-2 : tie.Need-put-refusal-requires-2
-put-refusal-requires-2 c κs = search needs
-
-same-length-2 : tie.Need-same-length-2
-same-length-2 c = search needs
-
-same-length-3 : tie.Need-same-length-3
-same-length-3 c = search needs
-
-same-length-4 : tie.Need-same-length-4
-same-length-4 c = search needs
 
 returns-2 : tie.Need-returns-2
 returns-2 c =
@@ -103,15 +64,6 @@ returns-2 c =
     let known = c .before .before .before .before .before .before .before .before .before .before .before .before .before .before .before in
     let a = known .before .before .before .before .before .before .before .before .args in
     (subst (λ (t : List ℕ). Printed (now (a .out)) 0 t (p .last .0) (p .result)) (drawing (c .before .before .before .before .before) .text) (p .ensures .0), p .ensures .1)
-
-same-length-5 : tie.Need-same-length-5
-same-length-5 c = search needs
-
-same-length-6 : tie.Need-same-length-6
-same-length-6 c = search needs
-
-same-length-7 : tie.Need-same-length-7
-same-length-7 c = search needs
 
 returns-3 : tie.Need-returns-3
 returns-3 c =
@@ -130,23 +82,23 @@ pub report-spec : {M : Type 1} → statement M
 report-spec =
     tie.close
     (tie.spec
-    read-requires
-    enum-known-graph
-    enum-told
-    refusal-requires
-    put-refusal-requires
-    same-length
+    (λ c κs. search needs)
+    (λ c. search needs)
+    (λ c. search needs)
+    (λ c κs. search needs)
+    (λ c κs. search needs)
+    (λ c. search needs)
     returns
-    cycle-breaking-nodes-requires
-    enum-known-choice
+    (λ c κs. search needs)
+    (λ c. search needs)
     put-drawing-requires
-    enum-known-choice-2
-    put-refusal-requires-2
-    same-length-2
-    same-length-3
-    same-length-4
+    (λ c. search needs)
+    (λ c κs. search needs)
+    (λ c. search needs)
+    (λ c. search needs)
+    (λ c. search needs)
     returns-2
-    same-length-5
-    same-length-6
-    same-length-7
+    (λ c. search needs)
+    (λ c. search needs)
+    (λ c. search needs)
     returns-3)

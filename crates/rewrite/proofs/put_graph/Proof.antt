@@ -41,15 +41,6 @@ label-row-requires c κs = stored-rows (c .before .before .before .before .pre .
 body-row-requires : tie.Need-body-row-requires
 body-row-requires c κs = stored-rows (c .before .before .before .before .before .pre .0) .low
 
-label-row-requires-2 : tie.Need-label-row-requires-2
-label-row-requires-2 c κs = search needs
-
-body-row-requires-2 : tie.Need-body-row-requires-2
-body-row-requires-2 c κs = search needs
-
-put-header-requires : tie.Need-put-header-requires
-put-header-requires c κs = search needs
-
 copy-numbers-requires : tie.Need-copy-numbers-requires
 copy-numbers-requires c κs =
     let p = c .before .before .before .before .before .before .before .before .before .before .before .before .before .pre in
@@ -70,9 +61,6 @@ copy-numbers-requires-2 c κs =
       held (stored-rows (p .0) .body-held) (c .before .before .before .before .before .before .before .before .before .before .before .body-row .ensures) _ refl n,
     )
 
-same-length : tie.Need-same-length
-same-length c = search needs
-
 returns : tie.Need-returns
 returns c =
     let s = c .before .before .before .before .before .before .before .before .before .before .before .before .before .before .before .before .before .before .before .before in
@@ -92,10 +80,10 @@ put-graph-spec =
     body-size-requires
     label-row-requires
     body-row-requires
-    label-row-requires-2
-    body-row-requires-2
-    put-header-requires
+    (λ c κs. search needs)
+    (λ c κs. search needs)
+    (λ c κs. search needs)
     copy-numbers-requires
     copy-numbers-requires-2
-    same-length
+    (λ c. search needs)
     returns)

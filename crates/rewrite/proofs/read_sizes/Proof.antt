@@ -2,7 +2,6 @@
 -- Assumes nothing.
 use mathlib.Core.Path.{ap, _∙_}
 use native.Mathlib.Omega.{arith}
-use lib.ListN.{length}
 use denote.Ref.{now}
 use borrow.Author.Needs.{needs}
 use Rattle.le.proofs.Numbers.{below-each}
@@ -22,18 +21,6 @@ form c =
     stored b (c .before .before .before .read .result) (c .before .before .before .read .ensures)
     (below-each 256 b (λ i l. omega (arith, c .before .before .before .before .before .shared-slice-known .given i))) (c .before .graph .given .0 .0) (c .before .graph .given .1)
 
-read-requires : tie.Need-read-requires
-read-requires c κs = search needs
-
-enum-known-graph : tie.Need-enum-known-graph
-enum-known-graph c = search needs
-
-enum-told : tie.Need-enum-told
-enum-told c = search needs
-
-refusal-requires : tie.Need-refusal-requires
-refusal-requires c κs = search needs
-
 returns : tie.Need-returns
 unfolding _>>=_
 returns c =
@@ -48,9 +35,6 @@ returns-2 c = sizes-10 (form (c .before)) (now (c .before .before .before .befor
 put-sizes-requires : tie.Need-put-sizes-requires
 put-sizes-requires c κs = (stored-rows (form (c .before .before)) .low, omega arith)
 
-same-length : tie.Need-same-length
-same-length c = search needs
-
 returns-3 : tie.Need-returns-3
 returns-3 c = sizes-0 (form (c .before .before .before .before .before)) (now (c .before .before .before .before .before .before .before .before .before .before .before .args .out)) (omega arith) _ (c .before .before .put-sizes .ensures)
 
@@ -58,12 +42,12 @@ pub read-sizes-spec : {M : Type 1} → statement M
 read-sizes-spec =
     tie.close
     (tie.spec
-    read-requires
-    enum-known-graph
-    enum-told
-    refusal-requires
+    (λ c κs. search needs)
+    (λ c. search needs)
+    (λ c. search needs)
+    (λ c κs. search needs)
     returns
     returns-2
     put-sizes-requires
-    same-length
+    (λ c. search needs)
     returns-3)

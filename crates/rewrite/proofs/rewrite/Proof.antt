@@ -1,18 +1,16 @@
 -- `rewrite::rewrite` meets its contract.
 -- Assumes nothing.
-use mathlib.Core.Path.{_≡_, refl, ap, _∙_, sym}
+use mathlib.Core.Path.{refl, ap, _∙_}
 use native.Mathlib.Omega.{arith}
-use lib.ListN.{length}
 use denote.Ref.{now}
 use borrow.Author.Needs.{needs}
 use Rattle.le.proofs.Numbers.{below-each}
-use Rattle.graph.specs.Calls.{Next, rewriteStep}
+use Rattle.graph.specs.Calls.{rewriteStep}
 use Rattle.graph.specs.Graph.{Format}
-use Rattle.form.specs.Form.{refusalIn, refusalRead, sizesOf, countsOf}
-use Rattle.form.specs.Stored.{graphOf, Stored}
+use Rattle.form.specs.Form.{refusalIn, refusalRead, countsOf}
+use Rattle.form.specs.Stored.{Stored}
 use Rattle.form.specs.declared.Sizes.{Sizes}
 use Rattle.form.proofs.Stored.{unread, stored}
-use Rattle.write.specs.Write.{fitted}
 use Rattle.write.proofs.Calls.{graph-unread, graph-refused, graph-fits, graph-done}
 use Rattle.write.proofs.Results.{fits-room}
 use Rattle.rewrite.proofs.Ways.{refuse, read-again}
@@ -26,18 +24,6 @@ form c =
     stored b (c .before .before .before .read .result) (c .before .before .before .read .ensures)
     (below-each 256 b (λ i l. omega (arith, c .before .before .before .before .before .shared-slice-known .given i))) (c .before .graph .given .0 .0) (c .before .graph .given .1)
 
-read-requires : tie.Need-read-requires
-read-requires c κs = search needs
-
-enum-known-graph : tie.Need-enum-known-graph
-enum-known-graph c = search needs
-
-enum-told : tie.Need-enum-told
-enum-told c = search needs
-
-refusal-requires : tie.Need-refusal-requires
-refusal-requires c κs = search needs
-
 returns : tie.Need-returns
 returns c =
     let a = c .before .before .before .before .before .before .args in
@@ -45,20 +31,8 @@ returns c =
     let x = c .before .enum-told .given in
     refuse (c .refusal .ensures ∙ ap refusalRead (x .1)) (graph-unread (now (a .src)) (λ (f : Format). rewriteStep) (now (a .out)) (x .0 .0) (unread (now (a .src)) (r .result) (r .ensures) (x .0 .0) (x .1)))
 
-sized-requires : tie.Need-sized-requires
-sized-requires c κs = search needs
-
 result-size-requires : tie.Need-result-size-requires
 result-size-requires c κs = rw (c .sized .ensures)
-
-enum-known-fit : tie.Need-enum-known-fit
-enum-known-fit c = search needs
-
-enum-told-2 : tie.Need-enum-told-2
-enum-told-2 c = search needs
-
-refusal-requires-2 : tie.Need-refusal-requires-2
-refusal-requires-2 c κs = search needs
 
 returns-2 : tie.Need-returns-2
 returns-2 c =
@@ -79,9 +53,6 @@ put-graph-requires c κs =
     let f = graph-fits (now (a .src)) (λ (f : Format). rewriteStep) (now (a .out)) s _ (w .0) _ (w .1) (r .result) (r .ensures) (x .0 .0) (x .1) in
     (s, fits-room f _ refl, ap countsOf (c .before .before .before .before .before .sized .ensures), ap (λ (z : Sizes). z .ports) (c .before .before .before .before .before .sized .ensures))
 
-same-length : tie.Need-same-length
-same-length c = search needs
-
 returns-3 : tie.Need-returns-3
 returns-3 c =
     let a = c .before .before .before .before .before .before .before .before .before .before .before .before .before .before .before .args in
@@ -95,17 +66,17 @@ pub rewrite-spec : {M : Type 1} → statement M
 rewrite-spec =
     tie.close
     (tie.spec
-    read-requires
-    enum-known-graph
-    enum-told
-    refusal-requires
+    (λ c κs. search needs)
+    (λ c. search needs)
+    (λ c. search needs)
+    (λ c κs. search needs)
     returns
-    sized-requires
+    (λ c κs. search needs)
     result-size-requires
-    enum-known-fit
-    enum-told-2
-    refusal-requires-2
+    (λ c. search needs)
+    (λ c. search needs)
+    (λ c κs. search needs)
     returns-2
     put-graph-requires
-    same-length
+    (λ c. search needs)
     returns-3)

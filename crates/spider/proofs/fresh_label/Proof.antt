@@ -50,9 +50,6 @@ put-number-requires c κs = (held (c .before .before .before), c .before .number
 add-result : tie.Need-add-result
 add-result c = omega (arith, holds-index (held (c .before .before .before .before .before .before)))
 
-same-length : tie.Need-same-length
-same-length c = search needs
-
 returns-2 : tie.Need-returns-2
 returns-2 c =
     let S = c .before .before .before .before .before .before .before .before .before .before .before in
@@ -75,5 +72,5 @@ fresh-label-spec =
     number-requires
     put-number-requires
     add-result
-    same-length
+    (λ c. search needs)
     returns-2)

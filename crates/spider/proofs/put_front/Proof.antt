@@ -16,14 +16,8 @@ use native.Mathlib.Omega.{arith}
 use Rattle.spider.proofs.put_front.Statement.{statement}
 use Rattle.spider.proofs.put_front.Tie as tie
 
-put-header-requires : tie.Need-put-header-requires
-put-header-requires c κs = search needs
-
 label-row-requires : tie.Need-label-row-requires
 label-row-requires c κs = stored-rows (c .before .before .before .before .before .before .before .pre .0 .stored) .low
-
-label-row-requires-2 : tie.Need-label-row-requires-2
-label-row-requires-2 c κs = search needs
 
 -- room for n labels, and the labels that were read
 held : (c : tie.After-label-row2) (n : ℕ) → n ≤ c .before .before .before .before .before .before .before .before .before .args .y .nodes + c .before .before .before .before .before .before .before .before .before .args .y .edges → (out : List ℕ) → length out ≡ length (now (c .before .before .before .before .before .before .before .before .before .args .out)) → Holds out (c .label-row2 .result) n
@@ -98,9 +92,9 @@ pub put-front-spec : {M : Type 1} → statement M
 put-front-spec =
     tie.close
     (tie.spec
-    put-header-requires
+    (λ c κs. search needs)
     label-row-requires
-    label-row-requires-2
+    (λ c κs. search needs)
     copy-numbers-requires
     label-edges-requires
     mul-label-part

@@ -37,12 +37,6 @@ listed-requires c κs = let k = known (c .before) in let h = c .before .before .
 put-number-requires : tie.Need-put-number-requires
 put-number-requires c κs = (c .before .before .before .before .before .before .before .before .before .pre .3, c .before .before .before .before .number .ensures .1)
 
-same-length : tie.Need-same-length
-same-length c = search needs
-
-same-length-2 : tie.Need-same-length-2
-same-length-2 c = search needs
-
 returns : tie.Need-returns
 returns c =
     let S = c .before .before .before .before .before .before .before .before .before .before .before .before in
@@ -73,12 +67,6 @@ put-number-requires-2 c κs = (c .before .before .before .before .before .before
 add-result : tie.Need-add-result
 add-result c = omega (arith, numbered (c .before .before .before .before .before .before .before .before) .few)
 
-same-length-3 : tie.Need-same-length-3
-same-length-3 c = search needs
-
-same-length-4 : tie.Need-same-length-4
-same-length-4 c = search needs
-
 returns-2 : tie.Need-returns-2
 returns-2 c =
     let S = c .before .before .before .before .before .before .before .before .before .before .before .before .before .before .before .before in
@@ -97,12 +85,12 @@ rewrite-entry-spec =
     number-requires
     listed-requires
     put-number-requires
-    same-length
-    same-length-2
+    (λ c. search needs)
+    (λ c. search needs)
     returns
     link-requires
     put-number-requires-2
     add-result
-    same-length-3
-    same-length-4
+    (λ c. search needs)
+    (λ c. search needs)
     returns-2)

@@ -50,36 +50,12 @@ pairs c = sym (ap (λ (y : Sizes). y .pairs) (form c .sizes))
 nodes : (c : tie.After-known-told) → c .before .graph .given .0 .0 .nodes ≡ length (graphOf (now (c .before .before .before .before .before .before .before .before .before .before .args .src)) .labels)
 nodes c = ap (λ (y : Sizes). y .nodes) (form c .sizes)
 
-work-room-requires : tie.Need-work-room-requires
-work-room-requires c κs = search needs
-
-enum-told : tie.Need-enum-told
-enum-told c = search needs
-
-enum-told-2 : tie.Need-enum-told-2
-enum-told-2 c = search needs
-
-refusal-requires : tie.Need-refusal-requires
-refusal-requires c κs = search needs
-
 returns : tie.Need-returns
 returns c =
     let S = c .before .before .before .before .before .before .before in
     let x = c .before .enum-told2 .given in
     let r = c .before .before .before .work-room in
     passes (c .refusal .ensures ∙ ap refusalIn (x .1)) (gives-refused (x .0 .0) (now (S .args .out)) (work-short roomSpiderize _ (call S) (r .result) (r .ensures) (x .0 .0) (x .1)))
-
-read-requires : tie.Need-read-requires
-read-requires c κs = search needs
-
-enum-known-graph : tie.Need-enum-known-graph
-enum-known-graph c = search needs
-
-enum-told-3 : tie.Need-enum-told-3
-enum-told-3 c = search needs
-
-refusal-requires-2 : tie.Need-refusal-requires-2
-refusal-requires-2 c κs = search needs
 
 returns-2 : tie.Need-returns-2
 returns-2 c =
@@ -88,18 +64,6 @@ returns-2 c =
     let r = c .before .before .before .read in
     passes (c .refusal2 .ensures ∙ ap refusalRead (x .1))
     (gives-by (enough (c .before .before .before .before)) (graph-unread (now (S .args .src)) (next S) (now (S .args .out)) (x .0 .0) (unread (now (S .args .src)) (r .result) (r .ensures) (x .0 .0) (x .1))))
-
-unpaired-requires : tie.Need-unpaired-requires
-unpaired-requires c κs = search needs
-
-enum-told-4 : tie.Need-enum-told-4
-enum-told-4 c = search needs
-
-enum-told-5 : tie.Need-enum-told-5
-enum-told-5 c = search needs
-
-refusal-requires-3 : tie.Need-refusal-requires-3
-refusal-requires-3 c κs = search needs
 
 returns-3 : tie.Need-returns-3
 returns-3 c =
@@ -125,12 +89,6 @@ write-spiderized-requires c κs =
     let l = listed (c .before .before .before .before) in
     (form (c .before .before .before .before .before .before .before .before .before), sym (pairs (c .before .before .before .before .before .before .before .before .before)) ∙ none (c .before .before .before .before .before .before), omega (arith, roomy (c .before .before .before .before .before .before .before .before .before), c .before .before .before .before .list-all .kept .0), l .1, (range 0 (c .before .before .before .before .before .before .before .before .before .before .graph .given .0 .0 .nodes), l .0))
 
-same-length : tie.Need-same-length
-same-length c = search needs
-
-same-length-2 : tie.Need-same-length-2
-same-length-2 c = search needs
-
 returns-4 : tie.Need-returns-4
 returns-4 c =
     let S = c .before .before .before .before .before .before .before .before .before .before .before .before .before .before .before .before .before .before .before .before .before .before .before .before in
@@ -141,23 +99,23 @@ pub spiderize-spec : {M : Type 1} → statement M
 spiderize-spec =
     tie.close
     (tie.spec
-    work-room-requires
-    enum-told
-    enum-told-2
-    refusal-requires
+    (λ c κs. search needs)
+    (λ c. search needs)
+    (λ c. search needs)
+    (λ c κs. search needs)
     returns
-    read-requires
-    enum-known-graph
-    enum-told-3
-    refusal-requires-2
+    (λ c κs. search needs)
+    (λ c. search needs)
+    (λ c. search needs)
+    (λ c κs. search needs)
     returns-2
-    unpaired-requires
-    enum-told-4
-    enum-told-5
-    refusal-requires-3
+    (λ c κs. search needs)
+    (λ c. search needs)
+    (λ c. search needs)
+    (λ c κs. search needs)
     returns-3
     list-all-requires
     write-spiderized-requires
-    same-length
-    same-length-2
+    (λ c. search needs)
+    (λ c. search needs)
     returns-4)

@@ -51,36 +51,12 @@ pairs c = sym (ap (λ (y : Sizes). y .pairs) (form c .sizes))
 nodes : (c : tie.After-known-told) → c .before .graph .given .0 .0 .nodes ≡ length (graphOf (now (c .before .before .before .before .before .before .before .before .before .before .before .args .src)) .labels)
 nodes c = ap (λ (y : Sizes). y .nodes) (form c .sizes)
 
-work-room-requires : tie.Need-work-room-requires
-work-room-requires c κs = search needs
-
-enum-told : tie.Need-enum-told
-enum-told c = search needs
-
-enum-told-2 : tie.Need-enum-told-2
-enum-told-2 c = search needs
-
-refusal-requires : tie.Need-refusal-requires
-refusal-requires c κs = search needs
-
 returns : tie.Need-returns
 returns c =
     let S = c .before .before .before .before .before .before .before .before in
     let x = c .before .enum-told2 .given in
     let r = c .before .before .before .work-room in
     passes (c .refusal .ensures ∙ ap refusalIn (x .1)) (gives-refused (x .0 .0) (now (S .args .out)) (work-short roomSpiderize _ (call S) (r .result) (r .ensures) (x .0 .0) (x .1)))
-
-read-requires : tie.Need-read-requires
-read-requires c κs = search needs
-
-enum-known-graph : tie.Need-enum-known-graph
-enum-known-graph c = search needs
-
-enum-told-3 : tie.Need-enum-told-3
-enum-told-3 c = search needs
-
-refusal-requires-2 : tie.Need-refusal-requires-2
-refusal-requires-2 c κs = search needs
 
 returns-2 : tie.Need-returns-2
 returns-2 c =
@@ -92,15 +68,6 @@ returns-2 c =
 
 id-list-requires : tie.Need-id-list-requires
 id-list-requires c κs = stored-rows (form c) .low .width
-
-enum-known-list : tie.Need-enum-known-list
-enum-known-list c = search needs
-
-enum-told-4 : tie.Need-enum-told-4
-enum-told-4 c = search needs
-
-refusal-requires-3 : tie.Need-refusal-requires-3
-refusal-requires-3 c κs = search needs
 
 width : (c : tie.After-known-told) → formatOf (now (c .before .before .before .before .before .before .before .before .before .before .before .args .src)) .width ≡ c .before .graph .given .0 .0 .width
 width c = sym (ap (λ (y : Sizes). y .width) (form c .sizes))
@@ -115,18 +82,6 @@ returns-3 c =
     passes (c .refusal3 .ensures ∙ ap refusalIn (x .1))
     (gives-by (enough (c .before .before .before .before .before .before .before .before)) (graph-stopped b (next S) (now (S .args .out)) (form (c .before .before .before .before)) (x .0 .0)
     (step-7 (formatOf b) (now (S .args .ids)) (graphOf b) (meantBy (x .0 .0)) (ap (λ (n : ℕ). idList (formatOf b) n (now (S .args .ids))) (sym (nodes (c .before .before .before .before))) ∙ e))))
-
-unpaired-requires : tie.Need-unpaired-requires
-unpaired-requires c κs = search needs
-
-enum-told-5 : tie.Need-enum-told-5
-enum-told-5 c = search needs
-
-enum-told-6 : tie.Need-enum-told-6
-enum-told-6 c = search needs
-
-refusal-requires-4 : tie.Need-refusal-requires-4
-refusal-requires-4 c κs = search needs
 
 -- the list that was checked
 abbrev chosen : tie.After-known-told2 → List ℕ
@@ -175,12 +130,6 @@ write-spiderized-requires c κs =
     let l = listed (c .before .before .before .before) in
     (form (c .before .before .before .before .before .before .before .before .before .before .before .before .before .before .before .before .before), sym (pairs (c .before .before .before .before .before .before .before .before .before .before .before .before .before .before .before .before .before)) ∙ none (c .before .before .before .before .before .before .before .before .before .before), omega (arith, roomy (c .before .before .before .before .before .before .before .before .before .before .before .before .before .before .before .before .before), c .before .before .before .before .list-ids .kept .0, c .before .before .before .before .before .before .before .before .list-none .kept .0), l .1, (chosen (c .before .before .before .before .before .before .before .before .before .before .before .before .before), l .0))
 
-same-length : tie.Need-same-length
-same-length c = search needs
-
-same-length-2 : tie.Need-same-length-2
-same-length-2 c = search needs
-
 returns-5 : tie.Need-returns-5
 returns-5 c =
     let S = c .before .before .before .before .before .before .before .before .before .before .before .before .before .before .before .before .before .before .before .before .before .before .before .before .before .before .before .before .before .before .before .before .before in
@@ -191,29 +140,29 @@ pub spiderize-nodes-spec : {M : Type 1} → statement M
 spiderize-nodes-spec =
     tie.close
     (tie.spec
-    work-room-requires
-    enum-told
-    enum-told-2
-    refusal-requires
+    (λ c κs. search needs)
+    (λ c. search needs)
+    (λ c. search needs)
+    (λ c κs. search needs)
     returns
-    read-requires
-    enum-known-graph
-    enum-told-3
-    refusal-requires-2
+    (λ c κs. search needs)
+    (λ c. search needs)
+    (λ c. search needs)
+    (λ c κs. search needs)
     returns-2
     id-list-requires
-    enum-known-list
-    enum-told-4
-    refusal-requires-3
+    (λ c. search needs)
+    (λ c. search needs)
+    (λ c κs. search needs)
     returns-3
-    unpaired-requires
-    enum-told-5
-    enum-told-6
-    refusal-requires-4
+    (λ c κs. search needs)
+    (λ c. search needs)
+    (λ c. search needs)
+    (λ c κs. search needs)
     returns-4
     list-none-requires
     list-ids-requires
     write-spiderized-requires
-    same-length
-    same-length-2
+    (λ c. search needs)
+    (λ c. search needs)
     returns-5)

@@ -76,9 +76,6 @@ add-sized-3 c = let l = stored-rows (c .before .before .before .before .before .
 add-sized-4 : tie.Need-add-sized-4
 add-sized-4 c = let l = stored-rows (c .before .before .before .before .before .before .before .before .before .before .before .before .before .before .before .pre .0) .low in omega (arith, few (c .before .before .before .before .before), c .before .before .before .count-listed .ensures .1, l .nodes, l .ports, l .sources, l .targets)
 
-sized-requires : tie.Need-sized-requires
-sized-requires c κs = search needs
-
 sizes : (c : tie.After-sized) → c .sized .result ≡ sizesOf (fitting (result (c .before .before .before .before .before .before .before .before .before .before .before .before .before .before .before .before) .graph)) (result (c .before .before .before .before .before .before .before .before .before .before .before .before .before .before .before .before) .graph)
 sizes c =
     let S = c .before .before .before .before .before .before .before .before .before .before .before .before .before .before .before .before in
@@ -90,18 +87,6 @@ sizes c =
 
 result-size-requires : tie.Need-result-size-requires
 result-size-requires c κs = sizes c ∙ ap (λ (y : Sizes). fitted (countsOf y) (y .ports)) (sym (sizes c))
-
-enum-known-size : tie.Need-enum-known-size
-enum-known-size c = search needs
-
-enum-told : tie.Need-enum-told
-enum-told c = search needs
-
-refusal-requires : tie.Need-refusal-requires
-refusal-requires c κs = search needs
-
-same-length : tie.Need-same-length
-same-length c = search needs
 
 returns : tie.Need-returns
 returns c = λ next is.
@@ -170,12 +155,12 @@ write-spiderized-spec =
     add-sized-2
     add-sized-3
     add-sized-4
-    sized-requires
+    (λ c κs. search needs)
     result-size-requires
-    enum-known-size
-    enum-told
-    refusal-requires
-    same-length
+    (λ c. search needs)
+    (λ c. search needs)
+    (λ c κs. search needs)
+    (λ c. search needs)
     returns
     put-front-requires
     rewrite-all-requires

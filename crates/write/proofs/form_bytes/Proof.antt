@@ -7,27 +7,6 @@ use Rattle.form.specs.Form.{bodySize}
 use Rattle.write.proofs.form_bytes.Statement.{statement}
 use Rattle.write.proofs.form_bytes.Tie as tie
 
-body-row-requires : tie.Need-body-row-requires
-body-row-requires c κs = search needs
-
-mul-lists : tie.Need-mul-lists
-mul-lists c = search needs
-
-add-lists : tie.Need-add-lists
-add-lists c = search needs
-
-add-lists-2 : tie.Need-add-lists-2
-add-lists-2 c = search needs
-
-mul-result : tie.Need-mul-result
-mul-result c = search needs
-
-add-result : tie.Need-add-result
-add-result c = search needs
-
-add-result-2 : tie.Need-add-result-2
-add-result-2 c = search needs
-
 mul-result-2 : tie.Need-mul-result-2
 mul-result-2 c =
     let y = c .before .before .before .before .before .before .before .args .y in
@@ -47,13 +26,13 @@ pub form-bytes-spec : {M : Type 1} → statement M
 form-bytes-spec =
     tie.close
     (tie.spec
-    body-row-requires
-    mul-lists
-    add-lists
-    add-lists-2
-    mul-result
-    add-result
-    add-result-2
+    (λ c κs. search needs)
+    (λ c. search needs)
+    (λ c. search needs)
+    (λ c. search needs)
+    (λ c. search needs)
+    (λ c. search needs)
+    (λ c. search needs)
     mul-result-2
     add-result-3
     returns)

@@ -16,17 +16,8 @@ use Rattle.write.specs.Write.{headed}
 use Rattle.write.proofs.put_header.Statement.{statement}
 use Rattle.write.proofs.put_header.Tie as tie
 
-form1-requires : tie.Need-form1-requires
-form1-requires c κs = search needs
-
 put-mark-requires : tie.Need-put-mark-requires
 put-mark-requires c κs = (omega arith, omega (arith, ap (λ (f : Format). f .version) (c .form1 .ensures)))
-
-put-counts-requires : tie.Need-put-counts-requires
-put-counts-requires c κs = search needs
-
-same-length : tie.Need-same-length
-same-length c = search needs
 
 returns : tie.Need-returns
 unfolding fittingSizes headed puts
@@ -43,8 +34,8 @@ pub put-header-spec : {M : Type 1} → statement M
 put-header-spec =
     tie.close
     (tie.spec
-    form1-requires
+    (λ c κs. search needs)
     put-mark-requires
-    put-counts-requires
-    same-length
+    (λ c κs. search needs)
+    (λ c. search needs)
     returns)

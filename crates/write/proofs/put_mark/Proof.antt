@@ -7,35 +7,23 @@ use borrow.Author.Needs.{needs}
 use Rattle.write.proofs.put_mark.Statement.{statement}
 use Rattle.write.proofs.put_mark.Tie as tie
 
-slice-write-out : tie.Need-slice-write-out
-slice-write-out c = search needs
-
 slice-write-out-2 : tie.Need-slice-write-out-2
 slice-write-out-2 c = simp length-set (omega arith)
 
 slice-write-out-3 : tie.Need-slice-write-out-3
 slice-write-out-3 c = simp length-set (omega arith)
 
-cast-put2 : tie.Need-cast-put2
-cast-put2 c = search needs
-
-put2-requires : tie.Need-put2-requires
-put2-requires c κs = search needs
-
 same-length : tie.Need-same-length
 same-length c = ap length (c .before .before .put2 .ensures) ∙ simp length-set
-
-returns : tie.Need-returns
-returns c = search needs
 
 pub put-mark-spec : {M : Type 1} → statement M
 put-mark-spec =
     tie.close
     (tie.spec
-    slice-write-out
+    (λ c. search needs)
     slice-write-out-2
     slice-write-out-3
-    cast-put2
-    put2-requires
+    (λ c. search needs)
+    (λ c κs. search needs)
     same-length
-    returns)
+    (λ c. search needs))

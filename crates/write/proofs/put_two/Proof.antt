@@ -11,17 +11,8 @@ use Rattle.le.proofs.Rows.{holds-index, puts-append}
 use Rattle.write.proofs.put_two.Statement.{statement}
 use Rattle.write.proofs.put_two.Tie as tie
 
-put-number-requires : tie.Need-put-number-requires
-put-number-requires c κs = search needs
-
 add-put-number : tie.Need-add-put-number
 add-put-number c = omega (arith, holds-index (c .before .before .before .before .before .before .pre .0))
-
-put-number-requires-2 : tie.Need-put-number-requires-2
-put-number-requires-2 c κs = search needs
-
-same-length : tie.Need-same-length
-same-length c = search needs
 
 returns : tie.Need-returns
 returns c =
@@ -34,8 +25,8 @@ pub put-two-spec : {M : Type 1} → statement M
 put-two-spec =
     tie.close
     (tie.spec
-    put-number-requires
+    (λ c κs. search needs)
     add-put-number
-    put-number-requires-2
-    same-length
+    (λ c κs. search needs)
+    (λ c. search needs)
     returns)

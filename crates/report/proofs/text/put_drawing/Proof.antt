@@ -12,24 +12,6 @@ use Rattle.report.proofs.Texts.{printed-lines}
 use Rattle.report.proofs.text.put_drawing.Statement.{statement}
 use Rattle.report.proofs.text.put_drawing.Tie as tie
 
-slice-aggregate-put-text : tie.Need-slice-aggregate-put-text
-slice-aggregate-put-text c = search needs
-
-put-text-requires : tie.Need-put-text-requires
-put-text-requires c κs = search needs
-
-put-sizes-requires : tie.Need-put-sizes-requires
-put-sizes-requires c κs = search needs
-
-put-counts-requires : tie.Need-put-counts-requires
-put-counts-requires c κs = search needs
-
-put-ids-requires : tie.Need-put-ids-requires
-put-ids-requires c κs = search needs
-
-same-length : tie.Need-same-length
-same-length c = search needs
-
 returns : tie.Need-returns
 returns c =
     let ids = c .before .before in
@@ -50,10 +32,10 @@ pub put-drawing-spec : {M : Type 1} → statement M
 put-drawing-spec =
     tie.close
     (tie.spec
-    slice-aggregate-put-text
-    put-text-requires
-    put-sizes-requires
-    put-counts-requires
-    put-ids-requires
-    same-length
+    (λ c. search needs)
+    (λ c κs. search needs)
+    (λ c κs. search needs)
+    (λ c κs. search needs)
+    (λ c κs. search needs)
+    (λ c. search needs)
     returns)

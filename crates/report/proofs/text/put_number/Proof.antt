@@ -11,23 +11,11 @@ use Rattle.report.proofs.Texts.{decimal-digits, fewest-few}
 use Rattle.report.proofs.text.put_number.Statement.{statement}
 use Rattle.report.proofs.text.put_number.Tie as tie
 
-decimal-requires : tie.Need-decimal-requires
-decimal-requires c κs = search needs
-
-array-share-prefix-digits : tie.Need-array-share-prefix-digits
-array-share-prefix-digits c = search needs
-
-slice-aggregate-put-text : tie.Need-slice-aggregate-put-text
-slice-aggregate-put-text c = search needs
-
 put-text-requires : tie.Need-put-text-requires
 put-text-requires c κs =
     let d = c .before .before .decimal in
     let few : d .result ≤ 20 = fewest-few (d .result) (c .before .before .before .before .before .args .n) (d .ensures .1 .0) (omega arith) in
     omega (arith, d .ensures .0 .1)
-
-same-length : tie.Need-same-length
-same-length c = search needs
 
 returns : tie.Need-returns
 returns c =
@@ -43,9 +31,9 @@ pub put-number-spec : {M : Type 1} → statement M
 put-number-spec =
     tie.close
     (tie.spec
-    decimal-requires
-    array-share-prefix-digits
-    slice-aggregate-put-text
+    (λ c κs. search needs)
+    (λ c. search needs)
+    (λ c. search needs)
     put-text-requires
-    same-length
+    (λ c. search needs)
     returns)

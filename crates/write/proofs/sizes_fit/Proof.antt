@@ -1,9 +1,9 @@
--- `write::within_limits` meets its contract.
+-- `write::sizes_fit` meets its contract.
 -- Assumes nothing.
 use mathlib.Core.Bool.{and-false}
 use borrow.Author.Tests.{le-leb, lt-leb}
-use Rattle.write.proofs.within_limits.Statement.{statement}
-use Rattle.write.proofs.within_limits.Tie as tie
+use Rattle.write.proofs.sizes_fit.Statement.{statement}
+use Rattle.write.proofs.sizes_fit.Tie as tie
 
 returns : tie.Need-returns
 returns c = rw (lt-leb _ _ (c .if1 .taken))
@@ -30,5 +30,5 @@ returns-6 c =
       le-leb _ _ (c .before .if5 .left),
     )
 
-pub within-limits-spec : {M : Type 1} → statement M
-within-limits-spec = tie.close (tie.spec returns returns-2 returns-3 returns-4 returns-5 returns-6)
+pub sizes-fit-spec : {M : Type 1} → statement M
+sizes-fit-spec = tie.close (tie.spec returns returns-2 returns-3 returns-4 returns-5 returns-6)
