@@ -1,10 +1,11 @@
 -- The rows of the spiders: one side after the other, one node after the other.
 -- Assumes nothing.
 use mathlib.Core.Bool.{Bool, true, false}
-use mathlib.Core.List.{List, [], _∷_, _++_, append-nil}
+use mathlib.Core.List.{List, [], _∷_, _++_, append-assoc, append-nil}
 use mathlib.Core.Path.{_≡_, refl, ap, _∙_, subst}
-use Prim.Native.Nat.{ℕ, _+_, _-_, _≤_, _<_}
+use Prim.Native.Nat.{ℕ, _+_, _*_, _-_, _≤_, _<_}
 use native.Mathlib.Omega.{arith}
+use lib.Dec.{eqb}
 use lib.ListN.{length, length-append}
 use mir.Val.{boolByte}
 use Rattle.graph.specs.Lists.{keep, joined, range}
@@ -36,33 +37,51 @@ row-done {old} {o₁} {o₂} {o₃} {r} {k} {n} {m} {X} {Y} c d e f h p q =
     subst (λ (c : ℕ). Put old r k (c ∷ length Y ∷ (X ++ Y)) o₃ m) e
     (subst (λ (d : ℕ). Put old r k (c ∷ d ∷ (X ++ Y)) o₃ m) f (put-then (record { stored = h; next = refl }) (put-then p q)))
 
--- ---- one node, and one node more
+-- ---- one side more, and one node more
+
+-- a list made of the parts of each number, over the numbers below a bound
+module _ (part : List ℕ → List ℕ) (parts : (xs ys : List ℕ) → part (xs ++ ys) ≡ part xs ++ part ys) where
+  range-next : (i : ℕ) → part (range 0 (i + 1)) ≡ part (range 0 i) ++ part (i ∷ [])
+  range-next i = ap part (range-more i) ∙ parts (range 0 i) (i ∷ [])
+
+  range-room : (n i : ℕ) → i < n → length (part (range 0 i)) + length (part (i ∷ [])) ≤ length (part (range 0 n))
+  range-room n i l =
+      let m = n - (i + 1) in
+      let e : n ≡ i + 1 + m = omega arith in
+      let all : part (range 0 n) ≡ part (range 0 (i + 1)) ++ part (range (0 + (i + 1)) m) =
+      ap (λ (k : ℕ). part (range 0 k)) e ∙ ap part (range-add 0 (i + 1) m) ∙ parts (range 0 (i + 1)) (range (0 + (i + 1)) m) in
+      omega (
+        arith,
+        ap length all ∙ length-append (part (range 0 (i + 1))) (part (range (0 + (i + 1)) m)),
+        ap length (range-next i) ∙ length-append (part (range 0 i)) (part (i ∷ [])),
+      )
+
+-- the two spiders of a node as one list over the sides: side 0 from its global sources, side 1 to its global targets
+abbrev pub sideRow : (ℕ → ℕ → List ℕ) → ℕ → ℕ → List ℕ
+sideRow fresh id side = spiderRow (eqb side 1) id (fresh (2 * side) id) (fresh (2 * side + 1) id)
+
+abbrev pub sideRows : (ℕ → ℕ → List ℕ) → ℕ → ℕ → List ℕ
+sideRows fresh id sides = joined (sideRow fresh id) (range 0 sides)
+
+module _ (fresh : ℕ → ℕ → List ℕ) (id side : ℕ) where
+  pub sides-more : sideRows fresh id (side + 1) ≡ sideRows fresh id side ++ sideRow fresh id side
+  sides-more = range-next (joined (sideRow fresh id)) (joined-append (sideRow fresh id)) side ∙ ap (λ (l : List ℕ). sideRows fresh id side ++ l) (append-nil (sideRow fresh id side))
+
+  pub sides-room : side < 2 → length (sideRows fresh id side) + length (sideRow fresh id side) ≤ length (sideRows fresh id 2)
+  sides-room l = omega (arith, range-room (joined (sideRow fresh id)) (joined-append (sideRow fresh id)) 2 side l, length-append (sideRow fresh id side) [])
 
 module _ (nodes : ℕ) (W : List ℕ) (fresh : ℕ → ℕ → List ℕ) where
   pub none-of : (id : ℕ) → isListed nodes W id ≡ false → spidersOf nodes W fresh (id ∷ []) ≡ []
   none-of id e = rw e
 
-  pub both-of : (id : ℕ) → isListed nodes W id ≡ true → spidersOf nodes W fresh (id ∷ []) ≡ bothRows fresh id
-  both-of id e = rw e (append-nil (bothRows fresh id))
-
-  pub both-long : (id : ℕ) → isListed nodes W id ≡ true
-      → length (spidersOf nodes W fresh (id ∷ [])) ≡ length (spiderRow false id (fresh 0 id) (fresh 1 id)) + length (spiderRow true id (fresh 2 id) (fresh 3 id))
-  both-long id e = ap length (both-of id e) ∙ length-append (spiderRow false id (fresh 0 id) (fresh 1 id)) (spiderRow true id (fresh 2 id) (fresh 3 id))
+  pub both-of : (id : ℕ) → isListed nodes W id ≡ true → spidersOf nodes W fresh (id ∷ []) ≡ sideRows fresh id 2
+  both-of id e = rw e (append-assoc (spiderRow false id (fresh 0 id) (fresh 1 id)) (spiderRow true id (fresh 2 id) (fresh 3 id)) [])
 
   spiders-append : (xs ys : List ℕ) → spidersOf nodes W fresh (xs ++ ys) ≡ spidersOf nodes W fresh xs ++ spidersOf nodes W fresh ys
   spiders-append xs ys = ap (joined (bothRows fresh)) (keep-append (isListed nodes W) xs ys) ∙ joined-append (bothRows fresh) (keep (isListed nodes W) xs) (keep (isListed nodes W) ys)
 
   pub spiders-more : (id : ℕ) → spiders nodes W fresh (id + 1) ≡ spiders nodes W fresh id ++ spidersOf nodes W fresh (id ∷ [])
-  spiders-more id = ap (spidersOf nodes W fresh) (range-more id) ∙ spiders-append (range 0 id) (id ∷ [])
+  spiders-more id = range-next (spidersOf nodes W fresh) spiders-append id
 
   pub spiders-room : (id : ℕ) → id < nodes → length (spiders nodes W fresh id) + length (spidersOf nodes W fresh (id ∷ [])) ≤ length (spiders nodes W fresh nodes)
-  spiders-room id l =
-      let m = nodes - (id + 1) in
-      let e : nodes ≡ id + 1 + m = omega arith in
-      let all : spiders nodes W fresh nodes ≡ spiders nodes W fresh (id + 1) ++ spidersOf nodes W fresh (range (0 + (id + 1)) m) =
-      ap (λ (n : ℕ). spiders nodes W fresh n) e ∙ ap (spidersOf nodes W fresh) (range-add 0 (id + 1) m) ∙ spiders-append (range 0 (id + 1)) (range (0 + (id + 1)) m) in
-      omega (
-        arith,
-        ap length all ∙ length-append (spiders nodes W fresh (id + 1)) (spidersOf nodes W fresh (range (0 + (id + 1)) m)),
-        ap length (spiders-more id) ∙ length-append (spiders nodes W fresh id) (spidersOf nodes W fresh (id ∷ [])),
-      )
+  spiders-room id l = range-room (spidersOf nodes W fresh) spiders-append nodes id l

@@ -217,7 +217,8 @@ fn put_chains(
     put_side(room, nodes, tail, b, id, second, out, r, middle)
 }
 
-// The two spiders of a node into a row, if it is listed. Answered is the next index.
+// The two spiders of a node into a row, if it is listed: side 0 from its global sources to its edge sources, side 1 from its edge targets to its global targets.
+// One call writes both, so that the compiler puts `put_chains` in its place. Answered is the next index.
 fn put_spider(room: &[u8], nodes: usize, id: usize, out: &mut [u8], r: Row, k: usize) -> usize
     requires { ⌜ (id < nodes) × (id < 2 ^ 32) × ((fresh : ℕ → ℕ → List ℕ) × Table nodes (now room) fresh × Holds (now out) r (k + length (spidersOf nodes (cells (now room)) fresh (id ∷ [])))) ⌝ }
     ensures { λ n. ⌜ ((fresh : ℕ → ℕ → List ℕ) → Table nodes (now (room .entry)) fresh
@@ -226,8 +227,11 @@ fn put_spider(room: &[u8], nodes: usize, id: usize, out: &mut [u8], r: Row, k: u
     if !listed(room, id) {
         return k;
     }
-    let next = put_chains(room, nodes, id, GLOBAL_SOURCE, false, out, r, k);
-    put_chains(room, nodes, id, EDGE_TARGET, true, out, r, next)
+    let mut next = k;
+    for side in 0..2 {
+        next = put_chains(room, nodes, id, 2 * side, side == 1, out, r, next);
+    }
+    next
 }
 
 // The spiders of all listed nodes, in ascending order, into a row from an index on. Answered is the next index.
