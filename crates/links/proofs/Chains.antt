@@ -13,8 +13,8 @@ use Rattle.le.specs.Le.{row}
 use Rattle.le.specs.Rows.{placeIn, puts}
 use Rattle.le.specs.declared.Row.{Row}
 use Rattle.links.specs.Links.{cellCount, cells, unlisted, isListed, Heads, Links, back, Chained, Linked, linkedTo, Table, Run, Chain}
-use Rattle.le.proofs.Numbers.{length-row, row-append}
-use Rattle.le.proofs.Stores.{sets-append}
+use Rattle.le.proofs.Numbers.{length-row}
+use Rattle.le.proofs.Rows.{puts-append}
 use Rattle.le.proofs.Tables.{set-sets-before}
 
 -- ---- numbers put before others
@@ -24,14 +24,13 @@ sets-swap d i j A [] h = refl
 sets-swap d i j A (b ∷ B) h =
     ap (λ (u : List ℕ). sets u (suc i) B) (set-sets-before d j A i b (omega arith)) ∙ sets-swap (set d i b) (suc i) j A B (omega arith)
 
-pub puts-before : (b : List ℕ) (r : Row) (k j : ℕ) (ms ns : List ℕ) → k + length ms ≡ j → puts (puts b r j ns) r k ms ≡ puts b r k (ms ++ ns)
+-- where one row ends before the other begins, either can be written first
+pub puts-swap : (b : List ℕ) (l r : Row) (j k : ℕ) (ms ns : List ℕ) → placeIn l (j + length ms) ≤ placeIn r k → puts (puts b r k ns) l j ms ≡ puts (puts b l j ms) r k ns
 unfolding puts
-puts-before b r k j ms ns h =
-    let w = r .width in
-    let n = length-row w ms in
-    let place : placeIn r j ≡ placeIn r k + length (row w ms) = rw (← h) (omega arith) in
-    sets-swap b (placeIn r k) (placeIn r j) (row w ns) (row w ms) (omega arith) ∙ ap (λ (i : ℕ). sets (sets b (placeIn r k) (row w ms)) i (row w ns)) place
-    ∙ sym (sets-append b (placeIn r k) (row w ms) (row w ns)) ∙ ap (sets b (placeIn r k)) (sym (row-append w ms ns))
+puts-swap b l r j k ms ns h = sets-swap b (placeIn l j) (placeIn r k) (row (r .width) ns) (row (l .width) ms) (omega (arith, length-row (l .width) ms))
+
+pub puts-before : (b : List ℕ) (r : Row) (k j : ℕ) (ms ns : List ℕ) → k + length ms ≡ j → puts (puts b r j ns) r k ms ≡ puts b r k (ms ++ ns)
+puts-before b r k j ms ns h = rw (← h) (puts-swap b r r k (k + length ms) ms ns (omega arith) ∙ puts-append b r k ms ns)
 
 -- ---- chains
 

@@ -6,9 +6,10 @@ use mathlib.Core.Path.{_≡_, refl, sym, ap, _∙_, subst}
 use Prim.Native.Nat.{ℕ, suc, _+_, _-_, _≤_, _<_}
 use native.Mathlib.Nat.{add-zero}
 use native.Mathlib.Omega.{arith}
-use lib.Dec.{eqb}
-use lib.ListN.{length, getD, take, drop, length-append, length-map}
-use lib.Seq.{take-length}
+use lib.Dec.{eqb, ltb}
+use lib.ListN.{length, getD, take, drop, length-append, length-map, take-append-drop, drop-of-length-le}
+use lib.Seq.{take-length, take-all, take-append-le, drop-append-le, take-at, drop-at}
+use borrow.Author.Tests.{ltb-true, ltb-false}
 use Rattle.form.specs.Form.{bodyOf, listsFrom, edgeIn}
 use Rattle.form.specs.Stored.{graphOf, Stored}
 use Rattle.form.specs.declared.EdgeAt.{EdgeAt}
@@ -21,9 +22,7 @@ use Rattle.graph.specs.Spider.{freshened, after, freshenedEdges, entriesOf}
 use Rattle.le.specs.Le.{Below}
 use Rattle.le.specs.Rows.{Holds, entry}
 use Rattle.le.specs.declared.Row.{Row}
-use Rattle.write.specs.Write.{Put}
-use Rattle.write.proofs.Results.{put-then}
-use Rattle.spider.specs.Rewriting.{idsAt, Ids, labelled, Fresh, more, moreEdges}
+use Rattle.spider.specs.Rewriting.{idsAt, Ids, labelled, Fresh, more, kindAt, moreTwo, moreEdges}
 use Rattle.graph.proofs.Laws.{joined-append, joined-split}
 use Rattle.graph.proofs.Rows.{length-edge-rows, take-edges, at-edge}
 use Rattle.graph.proofs.Spiders.{keep-append, after-append}
@@ -74,10 +73,6 @@ module _ (g : Graph) (m : ℕ → Bool) where
   pub labelled-append : (xs ys : List ℕ) → labelled g m (xs ++ ys) ≡ labelled g m xs ++ labelled g m ys
   labelled-append xs ys = ap (map (λ (id : ℕ). getD (g .labels) id 0)) (keep-append m xs ys) ∙ map-append (λ (id : ℕ). getD (g .labels) id 0) (keep m xs) (keep m ys)
 
-  pub labels-then : {old mid new : List ℕ} {r : Row} {k j n : ℕ} (xs ys all : List ℕ) → Put old r k (labelled g m xs) mid j → Put mid r j (labelled g m ys) new n → all ≡ xs ++ ys
-      → Put old r k (labelled g m all) new n
-  labels-then xs ys all p q e = rw (e, labelled-append xs ys) (put-then p q)
-
 -- an edge that was met on the walk: where its ids stand, and that they are its own
 pub record EdgeRead (b : List ℕ) (z : Sizes) (i k : ℕ) (e : EdgeAt) : Type 0 where
   pub sources : e .sources ≡ length (getD (graphOf b .edges) i noEdge .sources)
@@ -86,12 +81,9 @@ pub record EdgeRead (b : List ℕ) (z : Sizes) (i k : ℕ) (e : EdgeAt) : Type 0
   pub end : e .end ≡ edgeStart (graphOf b .edges) (i + 1)
   pub next : e .end ≡ e .first + (e .sources + e .targets)
   pub ids : Ids b z (e .first) (e .sources + e .targets)
-  pub source-ids : idsAt b z (e .first) (e .sources) ≡ getD (graphOf b .edges) i noEdge .sources
-  pub target-ids : idsAt b z (e .first + e .sources) (e .targets) ≡ getD (graphOf b .edges) i noEdge .targets
+  pub are : idsAt b z (e .first) (e .sources + e .targets) ≡ getD (graphOf b .edges) i noEdge .sources ++ getD (graphOf b .edges) i noEdge .targets
   pub inside : e .end ≤ listsFrom z
   pub few : e .sources + e .targets ≤ z .ports
-  pub source-part : Ids b z (e .first) (e .sources)
-  pub target-part : Ids b z (e .first + e .sources) (e .targets)
   pub sofar : edgeEntries (take (i + 1) (graphOf b .edges)) ≡ edgeEntries (take i (graphOf b .edges)) ++ idsAt b z (e .first) (e .sources + e .targets)
   pub within : (m : ℕ → Bool) → length (keep m (edgeEntries (take i (graphOf b .edges)))) + length (keep m (idsAt b z (e .first) (e .sources + e .targets))) ≤ length (keep m (edgeEntries (graphOf b .edges)))
 
@@ -134,8 +126,7 @@ module _ {b : List ℕ} {z : Sizes} (s : Stored b z) (i k : ℕ) (l : i < z .edg
         end = end;
         next = next;
         ids = ids;
-        source-ids = source-ids;
-        target-ids = target-ids;
+        are = both;
         inside = omega (arith, at-edge (g .edges) [] i inside .inside);
         few =
             omega (
@@ -145,8 +136,6 @@ module _ {b : List ℕ} {z : Sizes} (s : Stored b z) (i k : ℕ) (l : i < z .edg
               ap length (sym (joined-split entries (i + 1) (g .edges))) ∙ length-append (edgeEntries (take (i + 1) (g .edges))) (edgeEntries (drop (i + 1) (g .edges))),
               ap (λ (y : Sizes). y .ports) (s .sizes),
             );
-        source-part = subst (λ (j : ℕ). Ids b z j (e .sources)) (add-zero (e .first)) (ids-part b z (e .first) n 0 (e .sources) (omega arith) ids);
-        target-part = ids-part b z (e .first) n (e .sources) (e .targets) (omega arith) ids;
         sofar = sofar;
         within = λ m.
             omega (
@@ -199,9 +188,17 @@ entries-append x (o ∷ old) old′ (y ∷ new) new′ e = pick (eqb x o) (entri
     pick true ih = ap (λ (r : List ℕ). y ∷ r) ih
     pick false ih = ih
 
+-- no entries
+none-more : (m : ℕ → Bool) (kind next : ℕ) (F : Fresh) (k x : ℕ) → F k x ≡ more kind m next [] F k x
+none-more m kind next F k x = go (eqb k kind)
+  where
+    go : (c : Bool) → F k x ≡ cond c (F k x ++ []) (F k x)
+    go true = sym (append-nil (F k x))
+    go false = refl
+
 module _ (m : ℕ → Bool) where
   -- entries after entries of the same kind
-  pub more-append : (kind next : ℕ) (xs ys : List ℕ) (F : Fresh) (k x : ℕ) → more m kind (after m next xs) ys (more m kind next xs F) k x ≡ more m kind next (xs ++ ys) F k x
+  pub more-append : (kind next : ℕ) (xs ys : List ℕ) (F : Fresh) (k x : ℕ) → more kind m (after m next xs) ys (more kind m next xs F) k x ≡ more kind m next (xs ++ ys) F k x
   more-append kind next xs ys F k x = go (eqb k kind)
     where
       A : List ℕ
@@ -215,6 +212,50 @@ module _ (m : ℕ → Bool) where
           append-assoc (F k x) A B
           ∙ ap (λ (r : List ℕ). F k x ++ r) (sym (ap (entriesOf x (xs ++ ys)) (freshened-append m next xs ys) ∙ entries-append x xs ys (freshened m next xs) (freshened m (after m next xs) ys) (sym (length-freshened m next xs))))
       go false = refl
+
+  -- one entry more of two lists: it is of the first kind while the first list is not passed
+  pub two-more : (first a b next : ℕ) (xs ys : List ℕ) → length ys ≡ 1 → (F : Fresh) (k x : ℕ)
+      → more (kindAt first a b (length xs)) m (after m next xs) ys (moreTwo first a b m next xs F) k x ≡ moreTwo first a b m next (xs ++ ys) F k x
+  two-more first a b next xs ys one F k x = go (ltb (length xs) first) refl
+    where
+      N : ℕ
+      N = after m next (take first xs)
+
+      G : Fresh
+      G = more a m next (take first xs) F
+
+      go : (c : Bool) → ltb (length xs) first ≡ c → more (cond c a b) m (after m next xs) ys (moreTwo first a b m next xs F) k x ≡ moreTwo first a b m next (xs ++ ys) F k x
+      go true e =
+          let l = ltb-true (length xs) first e in
+          let n = length-append xs ys in
+          let t : take first xs ≡ xs = take-all first xs (omega arith) in
+          let d : drop first xs ≡ [] = drop-of-length-le xs {i = first} (omega arith) in
+          let t′ : take first (xs ++ ys) ≡ xs ++ ys = take-all first (xs ++ ys) (omega arith) in
+          let d′ : drop first (xs ++ ys) ≡ [] = drop-of-length-le (xs ++ ys) {i = first} (omega arith) in
+          (λ i. more a m (after m next xs) ys (more b m (after m next (t i)) (d i) (more a m next (t i) F)) k x)
+          ∙ (λ i. more a m (after m next xs) ys (λ k x. sym (none-more m b (after m next xs) (more a m next xs F) k x) i) k x) ∙ more-append a next xs ys F k x
+          ∙ none-more m b (after m next (xs ++ ys)) (more a m next (xs ++ ys) F) k x ∙ sym (λ i. more b m (after m next (t′ i)) (d′ i) (more a m next (t′ i) F) k x)
+      go false e =
+          let l = ltb-false (length xs) first e in
+          let t : take first (xs ++ ys) ≡ take first xs = take-append-le first xs ys l in
+          let d : drop first (xs ++ ys) ≡ drop first xs ++ ys = drop-append-le first xs ys l in
+          let n : after m next xs ≡ after m N (drop first xs) = ap (after m next) (sym (take-append-drop first xs)) ∙ after-append m next (take first xs) (drop first xs) in
+          ap (λ (n : ℕ). more b m n ys (more b m N (drop first xs) G) k x) n ∙ more-append b N (drop first xs) ys G k x ∙ sym (λ i. more b m (after m next (t i)) (d i) (more a m next (t i) F) k x)
+
+  -- nothing passed yet
+  pub two-none : (first a b next : ℕ) (F : Fresh) (k x : ℕ) → F k x ≡ moreTwo first a b m next [] F k x
+  two-none first a b next F k x =
+      let t : _≡_ {A = List ℕ} [] (take first []) = sym (take-all first [] (omega arith)) in
+      let d : _≡_ {A = List ℕ} [] (drop first []) = sym (drop-of-length-le [] {i = first} (omega arith)) in
+      none-more m a next F k x ∙ none-more m b (after m next []) (more a m next [] F) k x ∙ (λ i. more b m (after m next (t i)) (d i) (more a m next (t i) F) k x)
+
+  -- both lists passed
+  pub two-whole : (first a b next : ℕ) (xs ys : List ℕ) → first ≡ length xs → (F : Fresh) (k x : ℕ)
+      → moreTwo first a b m next (xs ++ ys) F k x ≡ more b m (after m next xs) ys (more a m next xs F) k x
+  two-whole first a b next xs ys e F k x =
+      let t : take first (xs ++ ys) ≡ xs = take-at xs ys first (sym e) in
+      let d : drop first (xs ++ ys) ≡ ys = drop-at xs ys first (sym e) in
+      λ i. more b m (after m next (t i)) (d i) (more a m next (t i) F) k x
 
   -- one edge more
   pub edges-more : (next : ℕ) (es : List Edge) (e : Edge) → freshenedEdges m next (es ++ (e ∷ [])) ≡ freshenedEdges m next es ++ freshenedEdges m (after m next (edgeEntries es)) (e ∷ [])

@@ -5,8 +5,8 @@ use mathlib.Core.List.{List, [], _∷_, _++_, map, map-append, append-assoc, app
 use mathlib.Core.Path.{_≡_, refl, sym, ap, _∙_, subst}
 use Prim.Native.Nat.{ℕ, suc, _+_, _*_, _-_, _≤_}
 use native.Mathlib.Omega.{arith}
-use lib.ListN.{length, length-append, length-map, replicate, length-replicate}
-use Rattle.form.specs.Form.{sizesOf, labelsOf, bodyOf, listsFrom}
+use lib.ListN.{length, length-append, length-map, replicate}
+use Rattle.form.specs.Form.{sizesOf, labelsOf, bodyOf, bodySize, listsFrom}
 use Rattle.form.specs.Stored.{graphOf, Stored}
 use Rattle.form.specs.declared.Sizes.{Sizes}
 use Rattle.form.proofs.Stored.{stored-rows, stored-known}
@@ -14,31 +14,32 @@ use Rattle.graph.specs.Calls.{roomSpiderize}
 use Rattle.graph.specs.Form.{edgeRow, labelRow, body}
 use Rattle.graph.specs.Graph.{Edge, Graph, spider, edgeEntries, ports}
 use Rattle.graph.specs.Lists.{keep, joined, flat, range, among}
-use Rattle.graph.specs.Spider.{freshened, after, freshenedEdges, entriesOf, opened, leftSpider, rightSpider, spiderizedAt, spiderize}
+use Rattle.graph.specs.Spider.{freshened, after, freshenedEdges, entries, entriesOf, opened, leftSpider, rightSpider, spiderizedAt, spiderize}
 use Rattle.graph.specs.Versions.{fitting}
 use Rattle.le.specs.Rows.{span, puts}
 use Rattle.le.specs.declared.Row.{Row}
 use Rattle.links.specs.Links.{cells, cellCount, isListed, Linked, spiderRow, bothRows, spiders}
-use Rattle.write.specs.Write.{countedAs, fitted, headed, drawn, Put}
-use Rattle.spider.specs.Rewriting.{idsAt, Ids, labelled, Fresh, more, moreEdges, Pass, spidered, Plan}
+use Rattle.write.specs.Write.{countedAs, fitted, headed, drawn, Put, Room}
+use Rattle.spider.specs.Rewriting.{idsAt, Ids, labelled, Fresh, more, moreTwo, moreEdges, Pass, Ready, spidered, fronted, Plan}
 use Rattle.graph.proofs.Laws.{joined-append}
 use Rattle.graph.proofs.Rows.{length-edge-rows}
+use Rattle.graph.proofs.Spiders.{after-append}
 use Rattle.graph.proofs.Sizes.{Spiderized, spiderize-sizes}
 use Rattle.le.proofs.Numbers.{below-append}
 use Rattle.le.proofs.Rows.{holds-less, puts-append, length-span}
 use Rattle.links.proofs.Cells.{keep-more}
 use Rattle.links.proofs.Chains.{puts-before}
-use Rattle.write.proofs.Results.{drawn-start, drawn-labels, put-then}
-use Rattle.spider.proofs.Lists.{ids-next, length-freshened, keep-few, labelled-append, length-labelled, rows-long, more-sources, more-targets, more-others}
-use Rattle.spider.proofs.Passes.{linked-same, later, pass-then}
+use Rattle.write.proofs.Results.{room-same}
+use Rattle.spider.proofs.Lists.{ids-next, keep-few, freshened-append, length-labelled, two-whole, rows-long, more-sources, more-targets, more-others}
+use Rattle.spider.proofs.Passes.{linked-same, labels-on, numbered-part, later}
 
 -- ---- the parts
 
 -- the fresh nodes of all entries, numbered on from n
 abbrev pub allFresh : (ℕ → Bool) → Graph → ℕ → Fresh
 allFresh m g n =
-    more m 3 (after m (after m n (edgeEntries (g .edges))) (g .sources)) (g .targets)
-    (more m 0 (after m n (edgeEntries (g .edges))) (g .sources) (moreEdges m n (g .edges) (λ k x. [])))
+    more 3 m (after m (after m n (edgeEntries (g .edges))) (g .sources)) (g .targets)
+    (more 0 m (after m n (edgeEntries (g .edges))) (g .sources) (moreEdges m n (g .edges) (λ k x. [])))
 
 -- the rows of the edges and of the spiders
 abbrev rowsOf : (ℕ → Bool) → Graph → ℕ → List ℕ
@@ -46,7 +47,7 @@ rowsOf m g n = joined edgeRow (freshenedEdges m n (g .edges)) ++ joined (bothRow
 
 -- the global lists
 abbrev listsOf : (ℕ → Bool) → Graph → ℕ → List ℕ
-listsOf m g n = freshened m (after m n (edgeEntries (g .edges))) (g .sources) ++ freshened m (after m (after m n (edgeEntries (g .edges))) (g .sources)) (g .targets)
+listsOf m g n = freshened m (after m n (edgeEntries (g .edges))) (g .sources ++ g .targets)
 
 abbrev two : Graph → Graph → ℕ → List Edge
 two g h id = leftSpider g h id ∷ rightSpider g h id ∷ []
@@ -71,7 +72,8 @@ module _ (m : ℕ → Bool) (g : Graph) where
   body-is : flat (g .pairs) ≡ [] → body (spiderizedAt m g) ≡ rowsOf m g (length (g .labels)) ++ listsOf m g (length (g .labels))
   body-is e =
       let h = opened m g in
-      (λ i. rows-are i ++ (h .sources ++ (h .targets ++ e i))) ∙ ap (λ (l : List ℕ). rowsOf m g (length (g .labels)) ++ (h .sources ++ l)) (append-nil (h .targets))
+      (λ i. rows-are i ++ (h .sources ++ (h .targets ++ e i)))
+      ∙ ap (λ (l : List ℕ). rowsOf m g (length (g .labels)) ++ l) (ap (λ (l : List ℕ). h .sources ++ l) (append-nil (h .targets)) ∙ sym (freshened-append m _ (g .sources) (g .targets)))
 
   -- the labels
   fresh-labels : (next : ℕ) (es : List Edge) → map (λ e. e .label) (freshenedEdges m next es) ≡ map (λ e. e .label) es
@@ -89,15 +91,6 @@ module _ (m : ℕ → Bool) (g : Graph) where
       let n = length (g .labels) in
       let is = keep m (range 0 n) in
       map-append (λ (e : Edge). e .label) (freshenedEdges m n (g .edges)) (joined (two g (opened m g)) is) ∙ (λ i. fresh-labels n (g .edges) i ++ spider-labels is i)
-
-  pub labels-are : labelRow (spiderizedAt m g)
-      ≡ (((g .labels ++ labelled g m (edgeEntries (g .edges))) ++ labelled g m (g .sources ++ g .targets)) ++ map (λ e. e .label) (g .edges)) ++ replicate (2 * length (keep m (range 0 (length (g .labels))))) spider
-  labels-are =
-      (λ i. (g .labels ++ labelled-append g m (edgeEntries (g .edges)) (g .sources ++ g .targets) i) ++ edge-labels i)
-      ∙ regroup (g .labels) (labelled g m (edgeEntries (g .edges))) (labelled g m (g .sources ++ g .targets)) (map (λ (e : Edge). e .label) (g .edges)) (replicate (2 * length (keep m (range 0 (length (g .labels))))) spider)
-    where
-      regroup : (A B C D E : List ℕ) → (A ++ (B ++ C)) ++ (D ++ E) ≡ (((A ++ B) ++ C) ++ D) ++ E
-      regroup A B C D E = simp append-assoc
 
 -- ---- sizes
 
@@ -129,32 +122,21 @@ sizes-are {b} {z} st W ids e c d spiders ec ed es =
 
 -- ---- the global lists of a stored graph
 
-pub record ListsRead (b : List ℕ) (z : Sizes) : Type 0 where
-  pub sources : Ids b z (listsFrom z) (z .sources)
-  pub targets : Ids b z (listsFrom z + z .sources) (z .targets)
-  pub both : Ids b z (listsFrom z) (z .sources + z .targets)
-  pub source-ids : idsAt b z (listsFrom z) (z .sources) ≡ graphOf b .sources
-  pub target-ids : idsAt b z (listsFrom z + z .sources) (z .targets) ≡ graphOf b .targets
-  pub both-ids : idsAt b z (listsFrom z) (z .sources + z .targets) ≡ graphOf b .sources ++ graphOf b .targets
+module _ {b : List ℕ} {z : Sizes} (s : Stored b z) where
+  pub lists-are : idsAt b z (listsFrom z) (z .sources + z .targets) ≡ graphOf b .sources ++ graphOf b .targets
+  lists-are = let rows = stored-rows s in ids-next b z (listsFrom z) (z .sources) (z .targets) ∙ (λ i. rows .sources i ++ rows .targets i)
 
-pub lists-read : {b : List ℕ} {z : Sizes} → Stored b z → ListsRead b z
-lists-read {b} {z} s =
-    let rows = stored-rows s in
-    let known = stored-known s in
-    let both : idsAt b z (listsFrom z) (z .sources + z .targets) ≡ graphOf b .sources ++ graphOf b .targets = ids-next b z (listsFrom z) (z .sources) (z .targets) ∙ (λ i. rows .sources i ++ rows .targets i) in
-    record {
-      sources = record { stored = s; held = holds-less (rows .body-held) _ (omega arith); known = rw (rows .sources) (known .sources) };
-      targets = record { stored = s; held = holds-less (rows .body-held) _ (omega arith); known = rw (rows .targets) (known .targets) };
-      both = record { stored = s; held = holds-less (rows .body-held) _ (omega arith); known = rw both (below-append _ (graphOf b .sources) _ (known .sources) (known .targets)) };
-      source-ids = rows .sources;
-      target-ids = rows .targets;
-      both-ids = both;
-    }
+  pub lists-read : Ids b z (listsFrom z) (z .sources + z .targets)
+  lists-read = record {
+    stored = s;
+    held = holds-less (stored-rows s .body-held) _ (omega arith);
+    known = rw lists-are (below-append _ (graphOf b .sources) _ (stored-known s .sources) (stored-known s .targets));
+  }
 
 -- ---- the plan's sizes
 
 pub record Planned (b : List ℕ) (z y : Sizes) (m : ℕ → Bool) : Type 0 where
-  pub nodes : y .nodes ≡ z .nodes + (length (keep m (edgeEntries (graphOf b .edges))) + length (keep m (graphOf b .sources ++ graphOf b .targets)))
+  pub nodes : y .nodes ≡ after m (z .nodes) (entries (graphOf b))
   pub edges : y .edges ≡ z .edges + 2 * length (keep m (range 0 (length (graphOf b .labels))))
   pub rows : listsFrom y ≡ listsFrom z + length (joined (bothRows (allFresh m (graphOf b) (z .nodes))) (keep m (range 0 (z .nodes))))
   pub sources : y .sources ≡ z .sources
@@ -173,7 +155,7 @@ planned {b} {z} {y} {room} p =
     let E = joined edgeRow (freshenedEdges m (z .nodes) (g .edges)) in
     let all = ap length (rows-are m g ∙ ap (rowsOf m g) (sym labels)) ∙ length-append E (joined (bothRows (allFresh m g (z .nodes))) (keep m (range 0 (z .nodes)))) in
     record {
-      nodes = omega (arith, ap (λ (x : Sizes). x .nodes) (p .sizes), s .nodes, keep-more m (edgeEntries (g .edges)) (g .sources ++ g .targets));
+      nodes = omega (arith, ap (λ (x : Sizes). x .nodes) (p .sizes), s .nodes);
       edges = omega (arith, ap (λ (x : Sizes). x .edges) (p .sizes), s .edges, ap (λ (x : Sizes). x .edges) zs);
       rows = ap listsFrom (p .sizes) ∙ omega (arith, length-edge-rows (h .edges), all, rows-long m (z .nodes) (g .edges), length-edge-rows (g .edges), ap listsFrom zs);
       sources = ap (λ (x : Sizes). x .sources) (p .sizes) ∙ s .sources ∙ sym (ap (λ (x : Sizes). x .sources) zs);
@@ -182,94 +164,104 @@ planned {b} {z} {y} {room} p =
       source-count = ap (λ (x : Sizes). x .sources) zs;
     }
 
+-- what a later pass needs, after one over the first entries
+module _ {b : List ℕ} {z y : Sizes} {room old : List ℕ} (p : Plan b z y room) (buffer : Room old y) where
+  pub plan-ready : {j n k : ℕ} (xs : List ℕ) {ns room′ out : List ℕ} {step : Fresh → Fresh} {next : ℕ} → Pass (isListed (z .nodes) (cells room)) (z .nodes) (z .nodes) (cells room) old (graphOf b) y 0 xs ns step (cells room′) out next
+      → Ids b z j n → length (keep (isListed (z .nodes) (cells room)) xs) + length (keep (isListed (z .nodes) (cells room)) (idsAt b z j n)) ≤ length (keep (isListed (z .nodes) (cells room)) (entries (graphOf b))) → k + n ≤ bodySize y
+      → length room′ ≡ length room → (new : List ℕ) → length new ≡ length old → Ready b z y j n k next room′ new
+  plan-ready {j} {n} xs {room′ = room′} pass ids few held e new d = record {
+    ids = ids;
+    numbered = numbered-part xs (idsAt b z j n) pass (p .numbered) (omega (arith, planned p .nodes)) room′ e;
+    buffer = room-same buffer new d;
+    held = held;
+  }
+
 -- ---- all lists rewritten
 
 no-pairs : (ps : List (ℕ × ℕ)) → length ps ≡ 0 → flat ps ≡ []
 no-pairs [] e = refl
 no-pairs (p ∷ ps) e = absurd (omega arith)
 
--- what the passes over the edges and over the two global lists leave
-pub record AllRewritten (b : List ℕ) (z y : Sizes) (m : ℕ → Bool) (old : List ℕ) (r : Row) (X out : List ℕ) (end : ℕ) : Type 0 where
+-- what the passes over the edges and over the global lists leave
+pub record AllRewritten (b : List ℕ) (z y : Sizes) (m : ℕ → Bool) (old X out : List ℕ) (end : ℕ) : Type 0 where
   pub same : isListed (z .nodes) X ≡ m
   pub linked : Linked (z .nodes) X end (allFresh m (graphOf b) (z .nodes))
   pub number : end ≡ y .nodes
-  pub done : (new : List ℕ) (next : ℕ) → Put out r (listsFrom z) (spiders (z .nodes) X (allFresh m (graphOf b) (z .nodes)) (z .nodes)) new next → new ≡ puts old r 0 (body (spiderizedAt m (graphOf b)))
+  pub done : {r : Row} {new : List ℕ} {next : ℕ} → r ≡ bodyOf y → Put out r (listsFrom z) (spiders (z .nodes) X (allFresh m (graphOf b) (z .nodes)) (z .nodes)) new next
+      → new ≡ puts (puts old (labelsOf y) (z .nodes) (labelled (graphOf b) m (entries (graphOf b)))) (bodyOf y) 0 (body (spiderizedAt m (graphOf b)))
 
-pub all-rewritten : {b : List ℕ} {z y : Sizes} {room old o₁ o₂ o₃ X₁ X₂ X₃ s t : List ℕ} {r : Row} {next last end j k : ℕ} (p : Plan b z y room)
-    → Pass (isListed (z .nodes) (cells room)) (z .nodes) (z .nodes) (cells room) old r 0 (edgeEntries (graphOf b .edges)) (joined edgeRow (freshenedEdges (isListed (z .nodes) (cells room)) (z .nodes) (graphOf b .edges)))
+pub all-rewritten : {b : List ℕ} {z y : Sizes} {room old o₁ o₂ X₁ X₂ ids : List ℕ} {next end : ℕ} (p : Plan b z y room)
+    → Pass (isListed (z .nodes) (cells room)) (z .nodes) (z .nodes) (cells room) old (graphOf b) y 0 (edgeEntries (graphOf b .edges)) (joined edgeRow (freshenedEdges (isListed (z .nodes) (cells room)) (z .nodes) (graphOf b .edges)))
     (moreEdges (isListed (z .nodes) (cells room)) (z .nodes) (graphOf b .edges)) X₁ o₁ next
-    → Pass (isListed (z .nodes) X₁) (z .nodes) next X₁ o₁ r j s (freshened (isListed (z .nodes) X₁) next s) (more (isListed (z .nodes) X₁) 0 next s) X₂ o₂ last
-    → Pass (isListed (z .nodes) X₂) (z .nodes) last X₂ o₂ r k t (freshened (isListed (z .nodes) X₂) last t) (more (isListed (z .nodes) X₂) 3 last t) X₃ o₃ end
-    → s ≡ graphOf b .sources → t ≡ graphOf b .targets → j ≡ listsFrom y → k ≡ j + z .sources → AllRewritten b z y (isListed (z .nodes) (cells room)) old r X₃ o₃ end
-all-rewritten {b} {z} {y} {room} {old} {o₁} {o₂} {o₃} {X₁} {X₂} {X₃} {s} {t} {r} {next} {last} {end} {j} {k} p first second third is-s is-t is-j is-k =
+    → Pass (isListed (z .nodes) X₁) (z .nodes) next X₁ o₁ (graphOf b) y (listsFrom y) ids (freshened (isListed (z .nodes) X₁) next ids) (moreTwo (z .sources) 0 3 (isListed (z .nodes) X₁) next ids) X₂ o₂ end
+    → ids ≡ graphOf b .sources ++ graphOf b .targets → AllRewritten b z y (isListed (z .nodes) (cells room)) old X₂ o₂ end
+all-rewritten {b} {z} {y} {room} {old} {o₁} {o₂} {X₁} {X₂} {ids} {next} {end} p first second is =
     let m = isListed (z .nodes) (cells room) in
     let g = graphOf b in
     let n = z .nodes in
-    let S = g .sources in
-    let T = g .targets in
-    let N₁ = after m n (edgeEntries (g .edges)) in
-    let N₂ = after m N₁ S in
+    let l = labelsOf y in
+    let r = bodyOf y in
+    let es = edgeEntries (g .edges) in
+    let lists = g .sources ++ g .targets in
+    let N = after m n es in
     let plan = planned p in
-    let q₂ = later 0 (first .same) second in
-    let q₃ = later 3 (q₂ .same) third in
-    let e₂ : last ≡ N₂ = q₂ .number ∙ (λ i. after m (first .number i) (is-s i)) in
-    let e₃ : end ≡ after m N₂ T = q₃ .number ∙ (λ i. after m (e₂ i) (is-t i)) in
-    let long : length (freshened m next s) ≡ z .sources = length-freshened m next s ∙ ap length is-s ∙ sym (plan .source-count) in
-    let lists = pass-then q₂ q₃ (is-k ∙ ap (λ (i : ℕ). j + i) (sym long)) in
+    let q = later (moreTwo (z .sources) 0 3) (first .same) second in
+    let fits : after m next lists ≤ y .nodes = subst (λ (xs : List ℕ). after m next xs ≤ y .nodes) is (omega (arith, q .number, q .within)) in
     let E = joined edgeRow (freshenedEdges m n (g .edges)) in
     let R = joined (bothRows (allFresh m g n)) (keep m (range 0 n)) in
-    let L = listsOf m g n in
-    let lE : length E ≡ listsFrom z = rows-long m n (g .edges) ∙ length-edge-rows (g .edges) ∙ sym (ap listsFrom (p .stored .sizes)) in
+    let A = puts old l n (labelled g m (entries g)) in
+    let start : listsFrom z ≡ 0 + length E = omega (arith, rows-long m n (g .edges), length-edge-rows (g .edges), ap listsFrom (p .stored .sizes)) in
     let pairs : flat (g .pairs) ≡ [] = no-pairs (g .pairs) (sym (ap (λ (x : Sizes). x .pairs) (p .stored .sizes)) ∙ p .unpaired) in
     record {
-      same = q₃ .same;
-      linked = linked-same n X₃ end end _ (allFresh m g n) (omega arith)
-          (λ x c l. (λ i. more m 3 (e₂ i) (is-t i) (more m 0 (first .number i) (is-s i) (moreEdges m n (g .edges) (λ k x. []))) c x)) (lists .chains _ (first .chains _ (p .empty)));
-      number = e₃ ∙ omega (arith, plan .nodes, keep-more m S T);
-      done = λ new next q.
-          q .stored ∙ ap (λ (t : ℕ → Bool). puts o₃ r (listsFrom z) (joined (bothRows (allFresh m g n)) (keep t (range 0 n)))) (q₃ .same)
-          ∙ ap (λ (o : List ℕ). puts o r (listsFrom z) R) (lists .stored ∙ (λ i. puts o₁ r (is-j i) (freshened m (first .number i) (is-s i) ++ freshened m (e₂ i) (is-t i))))
-          ∙ puts-before o₁ r (listsFrom z) (listsFrom y) R L (sym (plan .rows))
-          ∙ (λ i. puts (first .stored i) r (sym lE i) (R ++ L)) ∙ ap (λ (i : ℕ). puts (puts old r 0 E) r i (R ++ L)) (zero-plus (length E)) ∙ puts-append old r 0 E (R ++ L)
-          ∙ ap (puts old r 0) (sym (append-assoc E R L) ∙ ap (λ (i : ℕ). rowsOf m g i ++ listsOf m g i) (plan .labels) ∙ sym (body-is m g pairs));
+      same = q .same;
+      linked = linked-same n X₂ end end _ (allFresh m g n) (omega arith)
+          (λ x c t. (λ i. moreTwo (z .sources) 0 3 m (first .number i) (is i) (moreEdges m n (g .edges) (λ k x. [])) c x) ∙ two-whole m (z .sources) 0 3 N (g .sources) (g .targets) (plan .source-count) (moreEdges m n (g .edges) (λ k x. [])) c x)
+          (q .chains _ (first .chains _ (p .empty)));
+      number = q .number ∙ (λ i. after m (first .number i) (is i)) ∙ sym (after-append m n es lists) ∙ sym (plan .nodes);
+      done = λ is-r put.
+          put .stored ∙ (λ i. puts o₂ (is-r i) (listsFrom z) (joined (bothRows (allFresh m g n)) (keep (q .same i) (range 0 n))))
+          ∙ ap (λ (o : List ℕ). puts o r (listsFrom z) R)
+          (q .stored ∙ (λ i. puts (puts (first .stored i) l next (labelled g m (is i))) r (listsFrom y) (freshened m (first .number i) (is i)))
+          ∙ ap (λ (o : List ℕ). puts o r (listsFrom y) (listsOf m g n)) (labels-on m g y old n 0 next es lists E (first .number) fits))
+          ∙ puts-before (puts A r 0 E) r (listsFrom z) (listsFrom y) R (listsOf m g n) (sym (plan .rows)) ∙ ap (λ (i : ℕ). puts (puts A r 0 E) r i (R ++ listsOf m g n)) start
+          ∙ puts-append A r 0 E (R ++ listsOf m g n) ∙ ap (puts A r 0) (sym (append-assoc E R (listsOf m g n)) ∙ ap (λ (i : ℕ). rowsOf m g i ++ listsOf m g i) (plan .labels) ∙ sym (body-is m g pairs));
     }
-  where
-    zero-plus : (i : ℕ) → i ≡ 0 + i
-    zero-plus i = omega arith
 
 -- ---- all labels written
 
--- where the labels of the fresh nodes end
-module _ {b : List ℕ} {z y : Sizes} {room o₂ o₃ : List ℕ} {to : Row} {j : ℕ} (p : Plan b z y room)
-    (of-edges : Put o₂ to (z .nodes) (labelled (graphOf b) (isListed (z .nodes) (cells room)) (edgeEntries (graphOf b .edges))) o₃ j) where
-  pub edges-end : j ≡ z .nodes + length (keep (isListed (z .nodes) (cells room)) (edgeEntries (graphOf b .edges)))
-  edges-end = of-edges .next ∙ ap (λ (n : ℕ). z .nodes + n) (length-labelled (graphOf b) (isListed (z .nodes) (cells room)) (edgeEntries (graphOf b .edges)))
+module _ {b : List ℕ} {z y : Sizes} {room : List ℕ} (p : Plan b z y room) (old : List ℕ) where
+  pub front-done : {o₁ o₂ o₃ o₄ : List ℕ} {from to : Row} → from ≡ labelsOf z → to ≡ labelsOf y → o₁ ≡ headed old y → o₂ ≡ puts o₁ to 0 (span b from 0 (z .nodes))
+      → o₃ ≡ puts o₂ to (y .nodes) (span b from (z .nodes) (z .edges)) → o₄ ≡ puts o₃ to (y .nodes + z .edges) (replicate (y .edges - z .edges) spider) → o₄ ≡ fronted old y (graphOf b) (spidered b z (cells room))
+  unfolding fronted
+  front-done {o₁} {o₂} {o₃} {o₄} {from} is-from is-to e₁ e₂ e₃ e₄ =
+      let m = isListed (z .nodes) (cells room) in
+      let g = graphOf b in
+      let l = labelsOf y in
+      let rows = stored-rows (p .stored) in
+      let labels = map (λ (e : Edge). e .label) (g .edges) in
+      let n = 2 * length (keep m (range 0 (length (g .labels)))) in
+      let many : y .edges - z .edges ≡ n = omega (arith, planned p .edges) in
+      let edges : z .edges ≡ length labels = ap (λ (x : Sizes). x .edges) (p .stored .sizes) ∙ sym (length-map (g .edges) (λ (e : Edge). e .label)) in
+      let first : o₂ ≡ puts (headed old y) l 0 (g .labels) = e₂ ∙ (λ i. puts (e₁ i) (is-to i) 0 (span b (is-from i) 0 (z .nodes))) ∙ ap (puts (headed old y) l 0) (rows .labels) in
+      let second : o₃ ≡ puts o₂ l (y .nodes) labels = e₃ ∙ (λ i. puts o₂ (is-to i) (y .nodes) (span b (is-from i) (z .nodes) (z .edges))) ∙ ap (puts o₂ l (y .nodes)) (rows .edge-labels) in
+      e₄ ∙ (λ i. puts (second i) (is-to i) (y .nodes + edges i) (replicate (many i) spider)) ∙ puts-append o₂ l (y .nodes) labels (replicate n spider) ∙ (λ i. puts (first i) l (y .nodes) (sym (edge-labels m g) i))
 
-  module _ {o₄ : List ℕ} {k : ℕ} (of-lists : Put o₃ to j (labelled (graphOf b) (isListed (z .nodes) (cells room)) (idsAt b z (listsFrom z) (z .sources + z .targets))) o₄ k) where
-    pub lists-end : k ≡ y .nodes
-    lists-end =
-        let m = isListed (z .nodes) (cells room) in
-        let ids = idsAt b z (listsFrom z) (z .sources + z .targets) in
-        omega (arith, edges-end, of-lists .next, length-labelled (graphOf b) m ids, ap (λ (xs : List ℕ). length (keep m xs)) (lists-read (p .stored) .both-ids), planned p .nodes)
-
-    pub front-done : (old : List ℕ) {o₁ o₅ o₆ : List ℕ} {from : Row} → from ≡ labelsOf z → to ≡ labelsOf y → o₁ ≡ headed old y → o₂ ≡ puts o₁ to 0 (span b from 0 (z .nodes))
-        → o₅ ≡ puts o₄ to k (span b from (z .nodes) (z .edges)) → o₆ ≡ puts o₅ to (k + z .edges) (replicate (y .edges - z .edges) spider)
-        → o₆ ≡ drawn old y (labelRow (spidered b z (cells room))) []
-    front-done old {o₁} {o₅} {o₆} {from} is-from is-to e₁ e₂ e₅ e₆ =
-        let m = isListed (z .nodes) (cells room) in
-        let g = graphOf b in
-        let rows = stored-rows (p .stored) in
-        let q = planned p in
-        let labels = map (λ (e : Edge). e .label) (g .edges) in
-        let n = 2 * length (keep m (range 0 (length (g .labels)))) in
-        let many : y .edges - z .edges ≡ n = omega (arith, q .edges) in
-        let edges : z .edges ≡ length labels = ap (λ (x : Sizes). x .edges) (p .stored .sizes) ∙ sym (length-map (g .edges) (λ (e : Edge). e .label)) in
-        let first : Put o₁ to 0 (g .labels) o₂ (z .nodes) = record { stored = e₂ ∙ ap (puts o₁ to 0) (ap (λ (r : Row). span b r 0 (z .nodes)) is-from ∙ rows .labels); next = omega (arith, q .labels) } in
-        let fourth : Put o₄ to k labels o₅ (k + z .edges) = record { stored = e₅ ∙ ap (puts o₄ to k) (ap (λ (r : Row). span b r (z .nodes) (z .edges)) is-from ∙ rows .edge-labels); next = ap (λ (i : ℕ). k + i) edges } in
-        let fifth : Put o₅ to (k + z .edges) (replicate n spider) o₆ (k + z .edges + n) = record { stored = e₆ ∙ ap (λ (i : ℕ). puts o₅ to (k + z .edges) (replicate i spider)) many; next = ap (λ (i : ℕ). k + z .edges + i) (sym (length-replicate {A = ℕ} n spider)) } in
-        let third : Put o₃ to j (labelled g m (g .sources ++ g .targets)) o₄ k = subst (λ (xs : List ℕ). Put o₃ to j (labelled g m xs) o₄ k) (lists-read (p .stored) .both-ids) of-lists in
-        put-then (put-then (put-then (put-then first of-edges) third) fourth) fifth .stored
-        ∙ (λ i. puts ((e₁ ∙ sym (drawn-start old y)) i) (is-to i) 0 (sym (labels-are m g) i)) ∙ drawn-labels old y [] (labelRow (spidered b z (cells room))) 0 refl
+  -- with the labels of the fresh nodes between them, and all counts and ids
+  pub drawn-done : puts (puts (fronted old y (graphOf b) (spidered b z (cells room))) (labelsOf y) (z .nodes) (labelled (graphOf b) (isListed (z .nodes) (cells room)) (entries (graphOf b)))) (bodyOf y) 0 (body (spidered b z (cells room)))
+      ≡ drawn old y (labelRow (spidered b z (cells room))) (body (spidered b z (cells room)))
+  unfolding fronted drawn
+  drawn-done =
+      let m = isListed (z .nodes) (cells room) in
+      let g = graphOf b in
+      let h = spidered b z (cells room) in
+      let l = labelsOf y in
+      let F = labelled g m (entries g) in
+      let C = map (λ (e : Edge). e .label) (h .edges) in
+      let front = puts (headed old y) l 0 (g .labels) in
+      let end : z .nodes + length F ≡ y .nodes = omega (arith, planned p .nodes, length-labelled g m (entries g)) in
+      let start : z .nodes ≡ 0 + length (g .labels) = omega (arith, planned p .labels) in
+      ap (λ (o : List ℕ). puts o (bodyOf y) 0 (body h))
+      (puts-before front l (z .nodes) (y .nodes) F C end ∙ ap (λ (i : ℕ). puts front l i (F ++ C)) start ∙ puts-append (headed old y) l 0 (g .labels) (F ++ C) ∙ ap (puts (headed old y) l 0) (sym (append-assoc (g .labels) F C)))
 
 -- ---- room
 

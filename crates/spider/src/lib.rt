@@ -1,22 +1,23 @@
 // Spiderizing: the implicit wiring of listed nodes made explicit. Every entry of a listed node gets a fresh node, and two spiders for each listed node
-// join what the fresh nodes took apart. One pass counts the entries, one writes the labels of the fresh nodes, one rewrites the lists while it numbers the
-// entries and links each fresh node to the one before it of the same node and kind; the spiders are read off these chains.
+// join what the fresh nodes took apart. One pass counts the entries, one rewrites the lists while it numbers the entries, writes the label of each fresh node and
+// links it to the one before it of the same node and kind; the spiders are read off these chains.
 ghost use mathlib.Core.Path.{_≡_};
 ghost use mathlib.Core.List.{List, [], _∷_};
 ghost use Prim.Native.Nat.{ℕ, _+_, _*_, _<_, _≤_};
-ghost use lib.ListN.{length, replicate};
+ghost use lib.ListN.{length, getD, replicate};
 ghost use Rattle.le.specs.Rows.{Holds, puts};
 ghost use Rattle.graph.specs.Lists.{keep, joined, among};
 ghost use Rattle.graph.specs.Graph.{Graph, Format, spider, edgeEntries};
-ghost use Rattle.graph.specs.Form.{edgeRow, labelRow, body};
+ghost use Rattle.graph.specs.Form.{edgeRow, body};
 ghost use Rattle.graph.specs.Answer.{Answer, answered};
-ghost use Rattle.graph.specs.Spider.{freshened, after, freshenedEdges};
+ghost use Rattle.graph.specs.Spider.{entries, freshenedEdges};
 ghost use Rattle.graph.specs.Calls.{Next, onGraph, roomSpiderize, spiderizeCall, spiderizeNodesCall};
-ghost use Rattle.form.specs.Form.{bodyOf, listsFrom, Gives};
+ghost use Rattle.form.specs.Form.{labelsOf, bodyOf, listsFrom, Gives};
 ghost use Rattle.form.specs.Stored.{graphOf, formatOf, Stored};
-ghost use Rattle.write.specs.Write.{Put, Room, drawn};
+ghost use Rattle.write.specs.Write.{Room};
 ghost use Rattle.links.specs.Links.{cells, cellCount, isListed, Linked};
-ghost use Rattle.spider.specs.Rewriting.{idsAt, Ids, labelled, more, moreEdges, Pass, Numbered, spidered, Plan};
+ghost use Rattle.spider.specs.Rewriting.{idsAt, Ids, labelled, more, kindAt, moreTwo, moreEdges, Pass, Rewrites, Ready, spidered, fronted, Plan};
+use form::EdgeAt;
 use form::Outcome;
 use form::Reading;
 use form::Sizes;
@@ -61,158 +62,110 @@ fn count_edges(src: &[u8], z: Sizes, room: &[u8]) -> usize
     count
 }
 
-// The label of the fresh node of an entry, if its node is listed, as number k of a row. Answered is the next index.
-fn fresh_label(
-    src: &[u8],
-    z: Sizes,
-    id: usize,
-    room: &[u8],
-    out: &mut [u8],
-    r: Row,
-    k: usize,
-) -> usize
-    requires { ⌜ Stored (now src) z × (id < z .nodes) × (z .nodes * 4 ≤ cellCount (now room)) × Holds (now out) r (k + length (keep (isListed (z .nodes) (cells (now room))) (id ∷ []))) ⌝ }
-    ensures { λ n. ⌜ Put (now (out .entry)) r k (labelled (graphOf (now (src .entry))) (isListed (z .nodes) (cells (now (room .entry)))) (id ∷ [])) (now (out .exit)) n ⌝ }
+// The label of a node as number k of the labels of the result.
+fn put_label(src: &[u8], z: Sizes, y: Sizes, id: usize, out: &mut [u8], k: usize)
+    requires { ⌜ Stored (now src) z × (id < z .nodes) × Room (now out) y × (k < y .nodes) ⌝ }
+    ensures { λ _. ⌜ now (out .exit) ≡ puts (now (out .entry)) (labelsOf y) k (getD (graphOf (now (src .entry)) .labels) id 0 ∷ []) ⌝ }
 {
-    if !links::listed(room, id) {
-        return k;
-    }
     let label = le::number(src, form::label_row(z), id);
-    le::put_number(out, r, k, label);
-    k + 1
+    le::put_number(out, form::label_row(y), k, label);
 }
 
-// The labels of the fresh nodes of the n entries from index j on, into a row from an index on. Answered is the next index.
-fn label_part(
-    src: &[u8],
-    z: Sizes,
-    j: usize,
-    n: usize,
-    room: &[u8],
-    out: &mut [u8],
-    r: Row,
-    start: usize,
-) -> usize
-    requires { ⌜ Ids (now src) z j n × (z .nodes * 4 ≤ cellCount (now room)) × Holds (now out) r (start + length (keep (isListed (z .nodes) (cells (now room))) (idsAt (now src) z j n))) ⌝ }
-    ensures { λ k. ⌜ Put (now (out .entry)) r start (labelled (graphOf (now (src .entry))) (isListed (z .nodes) (cells (now (room .entry)))) (idsAt (now (src .entry)) z j n)) (now (out .exit)) k ⌝ }
-{
-    let row = form::body_row(z);
-    let mut k = start;
-    for i in 0..n {
-        let id = le::number(src, row, j + i);
-        k = fresh_label(src, z, id, room, out, r, k);
-    }
-    k
-}
-
-// Those of all entries of the edges.
-fn label_edges(src: &[u8], z: Sizes, room: &[u8], out: &mut [u8], r: Row, start: usize) -> usize
-    requires { ⌜ Stored (now src) z × (z .nodes * 4 ≤ cellCount (now room)) × Holds (now out) r (start + length (keep (isListed (z .nodes) (cells (now room))) (edgeEntries (graphOf (now src) .edges)))) ⌝ }
-    ensures { λ k. ⌜ Put (now (out .entry)) r start (labelled (graphOf (now (src .entry))) (isListed (z .nodes) (cells (now (room .entry)))) (edgeEntries (graphOf (now (src .entry)) .edges))) (now (out .exit)) k ⌝ }
-{
-    let row = form::body_row(z);
-    let mut j: usize = 0;
-    let mut k = start;
-    for i in 0..z.edges {
-        let e = form::edge_at(src, row, j);
-        k = label_part(src, z, e.first, e.sources + e.targets, room, out, r, k);
-        j = e.end;
-    }
-    k
-}
-
-// The entry at index j rewritten into a row: a fresh node for it, numbered `next`, if its node is listed. Answered is the next fresh node.
+// The entry at index j rewritten to index k of the result: if its node is listed, a fresh node for it, numbered `next`, with the node's label. A fresh node's number
+// is its index among the labels. Answered is the next fresh node.
 fn rewrite_entry(
     src: &[u8],
     z: Sizes,
+    y: Sizes,
     j: usize,
     kind: usize,
     next: usize,
     room: &mut [u8],
     out: &mut [u8],
-    r: Row,
     k: usize,
 ) -> usize
-    requires { ⌜ Ids (now src) z j 1 × (kind < 4) × Numbered (z .nodes) next (after (isListed (z .nodes) (cells (now room))) next (idsAt (now src) z j 1)) (now room) × Holds (now out) r (k + 1) ⌝ }
-    ensures { λ n. ⌜ Pass (isListed (z .nodes) (cells (now (room .entry)))) (z .nodes) next (cells (now (room .entry))) (now (out .entry)) r k (idsAt (now (src .entry)) z j 1)
-        (freshened (isListed (z .nodes) (cells (now (room .entry)))) next (idsAt (now (src .entry)) z j 1)) (more (isListed (z .nodes) (cells (now (room .entry)))) kind next (idsAt (now (src .entry)) z j 1))
-        (cells (now (room .exit))) (now (out .exit)) n ⌝ }
+    requires { ⌜ Ready (now src) z y j 1 k next (now room) (now out) × (kind < 4) ⌝ }
+    ensures { λ n. ⌜ Rewrites (now (src .entry)) z y j 1 k (more kind) next (now (room .entry)) (now (out .entry)) (now (room .exit)) (now (out .exit)) n ⌝ }
 {
     let id = le::number(src, form::body_row(z), j);
+    let row = form::body_row(y);
     if !links::listed(room, id) {
-        le::put_number(out, r, k, id);
+        le::put_number(out, row, k, id);
         return next;
     }
     links::link(room, z.nodes, id, kind, next);
-    le::put_number(out, r, k, next);
+    put_label(src, z, y, id, out, next);
+    le::put_number(out, row, k, next);
     next + 1
 }
 
-// The n entries from index j on rewritten into a row from index k on, all of one kind, the fresh nodes numbered on from `start`. Answered is the next fresh node.
-fn rewrite_part(
+// The kind of entry i of two lists that stand one after the other, the first of this length.
+fn kind_at(first: usize, a: usize, b: usize, i: usize) -> usize
+    ensures { λ k. ⌜ k ≡ kindAt first a b i ⌝ }
+{
+    if i < first { a } else { b }
+}
+
+// The sources and targets of an edge rewritten, where they stand. Both in one loop and by one call, so that the compiler puts it in its place. Answered is the next fresh node.
+fn rewrite_edge(
     src: &[u8],
     z: Sizes,
-    j: usize,
-    n: usize,
-    kind: usize,
+    y: Sizes,
+    e: EdgeAt,
     start: usize,
     room: &mut [u8],
     out: &mut [u8],
-    r: Row,
-    k: usize,
 ) -> usize
-    requires { ⌜ Ids (now src) z j n × (kind < 4) × Numbered (z .nodes) start (after (isListed (z .nodes) (cells (now room))) start (idsAt (now src) z j n)) (now room) × Holds (now out) r (k + n) ⌝ }
-    ensures { λ next. ⌜ Pass (isListed (z .nodes) (cells (now (room .entry)))) (z .nodes) start (cells (now (room .entry))) (now (out .entry)) r k (idsAt (now (src .entry)) z j n)
-        (freshened (isListed (z .nodes) (cells (now (room .entry)))) start (idsAt (now (src .entry)) z j n)) (more (isListed (z .nodes) (cells (now (room .entry)))) kind start (idsAt (now (src .entry)) z j n))
-        (cells (now (room .exit))) (now (out .exit)) next ⌝ }
+    requires { ⌜ Ready (now src) z y (e .first) (e .sources + e .targets) (e .first) start (now room) (now out) ⌝ }
+    ensures { λ next. ⌜ Rewrites (now (src .entry)) z y (e .first) (e .sources + e .targets) (e .first) (moreTwo (e .sources) 1 2) start (now (room .entry)) (now (out .entry)) (now (room .exit)) (now (out .exit)) next ⌝ }
 {
     let mut next = start;
-    for i in 0..n {
-        next = rewrite_entry(src, z, j + i, kind, next, room, out, r, k + i);
+    for i in 0..e.sources + e.targets {
+        let kind = kind_at(e.sources, links::EDGE_SOURCE, links::EDGE_TARGET, i);
+        let at = e.first + i;
+        next = rewrite_entry(src, z, y, at, kind, next, room, out, at);
     }
     next
 }
 
-// All edges rewritten into a row, where they stand in their own: the counts stay. Answered is the next fresh node.
-fn rewrite_edges(src: &[u8], z: Sizes, room: &mut [u8], out: &mut [u8], r: Row) -> usize
-    requires { ⌜ Stored (now src) z × Numbered (z .nodes) (z .nodes) (after (isListed (z .nodes) (cells (now room))) (z .nodes) (edgeEntries (graphOf (now src) .edges))) (now room)
-        × Holds (now out) r (listsFrom z) ⌝ }
-    ensures { λ next. ⌜ Pass (isListed (z .nodes) (cells (now (room .entry)))) (z .nodes) (z .nodes) (cells (now (room .entry))) (now (out .entry)) r 0 (edgeEntries (graphOf (now (src .entry)) .edges))
+// All edges rewritten, where they stand: the counts stay. Answered is the next fresh node.
+fn rewrite_edges(src: &[u8], z: Sizes, y: Sizes, room: &mut [u8], out: &mut [u8]) -> usize
+    requires { ⌜ Plan (now src) z y (now room) × Room (now out) y ⌝ }
+    ensures { λ next. ⌜ Pass (isListed (z .nodes) (cells (now (room .entry)))) (z .nodes) (z .nodes) (cells (now (room .entry))) (now (out .entry)) (graphOf (now (src .entry))) y 0 (edgeEntries (graphOf (now (src .entry)) .edges))
         (joined edgeRow (freshenedEdges (isListed (z .nodes) (cells (now (room .entry)))) (z .nodes) (graphOf (now (src .entry)) .edges)))
         (moreEdges (isListed (z .nodes) (cells (now (room .entry)))) (z .nodes) (graphOf (now (src .entry)) .edges)) (cells (now (room .exit))) (now (out .exit)) next ⌝ }
 {
-    let row = form::body_row(z);
+    let from = form::body_row(z);
+    let to = form::body_row(y);
     let mut k: usize = 0;
     let mut next = z.nodes;
     for i in 0..z.edges {
-        let e = form::edge_at(src, row, k);
-        write::put_two(out, r, k, e.sources, e.targets);
-        let second = e.first + e.sources;
-        let middle = rewrite_part(
-            src,
-            z,
-            e.first,
-            e.sources,
-            links::EDGE_SOURCE,
-            next,
-            room,
-            out,
-            r,
-            e.first,
-        );
-        next = rewrite_part(
-            src,
-            z,
-            second,
-            e.targets,
-            links::EDGE_TARGET,
-            middle,
-            room,
-            out,
-            r,
-            second,
-        );
+        let e = form::edge_at(src, from, k);
+        write::put_two(out, to, k, e.sources, e.targets);
+        next = rewrite_edge(src, z, y, e, next, room, out);
         k = e.end;
+    }
+    next
+}
+
+// The global sources and targets rewritten, to where they stand in the result.
+fn rewrite_lists(
+    src: &[u8],
+    z: Sizes,
+    y: Sizes,
+    start: usize,
+    room: &mut [u8],
+    out: &mut [u8],
+) -> usize
+    requires { ⌜ Ready (now src) z y (listsFrom z) (z .sources + z .targets) (listsFrom y) start (now room) (now out) ⌝ }
+    ensures { λ next. ⌜ Rewrites (now (src .entry)) z y (listsFrom z) (z .sources + z .targets) (listsFrom y) (moreTwo (z .sources) 0 3) start (now (room .entry)) (now (out .entry)) (now (room .exit)) (now (out .exit)) next ⌝ }
+{
+    let from = 2 * z.edges + z.ports;
+    let to = 2 * y.edges + y.ports;
+    let mut next = start;
+    for i in 0..z.sources + z.targets {
+        let kind = kind_at(z.sources, links::GLOBAL_SOURCE, links::GLOBAL_TARGET, i);
+        next = rewrite_entry(src, z, y, from + i, kind, next, room, out, to + i);
     }
     next
 }
@@ -227,64 +180,29 @@ fn put_spider_labels(out: &mut [u8], r: Row, k: usize, n: usize)
     }
 }
 
-// The spiderized form up to its labels: the header, the node labels and those of the fresh nodes, the edge labels and those of the spiders.
+// The header of the result, and all its labels but those of the fresh nodes, which the rewriting puts: those of the nodes, of the edges and of the spiders.
 fn put_front(src: &[u8], z: Sizes, y: Sizes, room: &[u8], out: &mut [u8])
     requires { ⌜ Plan (now src) z y (now room) × Room (now out) y ⌝ }
-    ensures { λ _. ⌜ now (out .exit) ≡ drawn (now (out .entry)) y (labelRow (spidered (now (src .entry)) z (cells (now (room .entry))))) [] ⌝ }
+    ensures { λ _. ⌜ now (out .exit) ≡ fronted (now (out .entry)) y (graphOf (now (src .entry))) (spidered (now (src .entry)) z (cells (now (room .entry)))) ⌝ }
 {
     write::put_header(out, y);
     let from = form::label_row(z);
     let to = form::label_row(y);
     le::copy_numbers(out, to, 0, src, from, 0, z.nodes);
-    let j = label_edges(src, z, room, out, to, z.nodes);
-    let k = label_part(
-        src,
-        z,
-        2 * z.edges + z.ports,
-        z.sources + z.targets,
-        room,
-        out,
-        to,
-        j,
-    );
-    le::copy_numbers(out, to, k, src, from, z.nodes, z.edges);
-    put_spider_labels(out, to, k + z.edges, y.edges - z.edges);
+    le::copy_numbers(out, to, y.nodes, src, from, z.nodes, z.edges);
+    put_spider_labels(out, to, y.nodes + z.edges, y.edges - z.edges);
 }
 
-// Replaces the entries of listed nodes, and builds their spiders: all counts and ids of the spiderized form.
+// Replaces the entries of listed nodes, and builds their spiders: all counts and ids of the spiderized form, and the labels of the fresh nodes.
 fn rewrite_all(src: &[u8], z: Sizes, y: Sizes, room: &mut [u8], out: &mut [u8])
     requires { ⌜ Plan (now src) z y (now room) × Room (now out) y ⌝ }
-    ensures { λ _. ⌜ now (out .exit) ≡ puts (now (out .entry)) (bodyOf y) 0 (body (spidered (now (src .entry)) z (cells (now (room .entry))))) ⌝ }
+    ensures { λ _. ⌜ now (out .exit) ≡ puts (puts (now (out .entry)) (labelsOf y) (z .nodes) (labelled (graphOf (now (src .entry))) (isListed (z .nodes) (cells (now (room .entry)))) (entries (graphOf (now (src .entry))))))
+        (bodyOf y) 0 (body (spidered (now (src .entry)) z (cells (now (room .entry))))) ⌝ }
 {
+    let next = rewrite_edges(src, z, y, room, out);
+    rewrite_lists(src, z, y, next, room, out);
     let row = form::body_row(y);
-    let next = rewrite_edges(src, z, room, out, row);
-    let from = 2 * z.edges + z.ports;
-    let to = 2 * y.edges + y.ports;
-    let last = rewrite_part(
-        src,
-        z,
-        from,
-        z.sources,
-        links::GLOBAL_SOURCE,
-        next,
-        room,
-        out,
-        row,
-        to,
-    );
-    rewrite_part(
-        src,
-        z,
-        from + z.sources,
-        z.targets,
-        links::GLOBAL_TARGET,
-        last,
-        room,
-        out,
-        row,
-        to + z.sources,
-    );
-    links::put_spiders(room, z.nodes, out, row, from);
+    links::put_spiders(room, z.nodes, out, row, 2 * z.edges + z.ports);
 }
 
 // The graph spiderized at the nodes that the table lists: 9 and 10, or its form.

@@ -1,26 +1,28 @@
 -- `spider::write_spiderized` meets its contract.
 -- Assumes nothing.
-use mathlib.Core.List.{List, []}
+use mathlib.Core.List.{List}
 use mathlib.Core.Path.{_≡_, refl, sym, ap, _∙_}
 use Prim.Native.Nat.{ℕ, _+_, _*_, _≤_}
 use lib.ListN.{length}
 use denote.Ref.{now}
-use Rattle.form.specs.Form.{countsOf, sizesOf, refusalIn, bodyOf}
+use Rattle.form.specs.Form.{countsOf, sizesOf, refusalIn, labelsOf, bodyOf}
+use Rattle.form.specs.Stored.{graphOf}
 use Rattle.form.specs.declared.Sizes.{Sizes}
 use Rattle.form.proofs.Answers.{number-answered}
 use Rattle.form.proofs.Stored.{stored-rows}
 use Rattle.graph.specs.Calls.{Next}
-use Rattle.graph.specs.Form.{labelRow, body}
+use Rattle.graph.specs.Form.{body}
 use Rattle.graph.specs.Lists.{keep}
+use Rattle.graph.specs.Spider.{entries}
 use Rattle.graph.specs.Versions.{fitting}
 use Rattle.le.specs.Rows.{puts}
 use Rattle.links.specs.Links.{cells, cellCount, isListed}
 use Rattle.write.specs.Write.{fitted}
 use Rattle.write.proofs.Calls.{graph-refused, graph-done}
-use Rattle.write.proofs.Results.{Fits, result-fits, fits-room, room-same, drawn-numbers}
-use Rattle.spider.specs.Rewriting.{spidered, Plan}
+use Rattle.write.proofs.Results.{Fits, result-fits, fits-room, room-same}
+use Rattle.spider.specs.Rewriting.{labelled, spidered, Plan}
 use Rattle.spider.proofs.Calls.{passes}
-use Rattle.spider.proofs.Parts.{lists-read, sizes-are, heads-held, fresh-few}
+use Rattle.spider.proofs.Parts.{lists-are, lists-read, sizes-are, drawn-done, heads-held, fresh-few}
 use borrow.Author.Needs.{needs}
 use native.Mathlib.Omega.{arith}
 use Rattle.spider.proofs.write_spiderized.Statement.{statement}
@@ -46,7 +48,7 @@ add-count-part : tie.Need-add-count-part
 add-count-part c = let l = stored-rows (c .before .before .before .before .before .before .before .before .pre .0) .low in omega (arith, l .sources, l .targets)
 
 count-part-requires : tie.Need-count-part-requires
-count-part-requires c κs = (lists-read (c .before .before .before .before .before .before .before .before .before .pre .0) .both, heads (c .before .before .before .before .before .before .before .before .before))
+count-part-requires c κs = (lists-read (c .before .before .before .before .before .before .before .before .before .pre .0), heads (c .before .before .before .before .before .before .before .before .before))
 
 -- there are no more fresh nodes than entries
 few : (c : tie.After-count-part) → c .before .before .before .count-edges .result + c .count-part .result ≤ c .before .before .before .before .before .before .before .before .before .before .args .z .ports + (c .before .before .before .before .before .before .before .before .before .before .args .z .sources + c .before .before .before .before .before .before .before .before .before .before .args .z .targets)
@@ -83,7 +85,7 @@ sizes c =
     let m = isListed (S .args .z .nodes) W in
     c .sized .ensures
     ∙ sizes-are (S .pre .0) W (S .pre .4 .0) (S .pre .4 .1) (c .before .before .before .before .before .before .before .before .before .count-edges .result) (c .before .before .before .before .before .before .count-part .result) (2 * c .before .before .before .before .count-listed .result) (c .before .before .before .before .before .before .before .before .before .count-edges .ensures)
-    (c .before .before .before .before .before .before .count-part .ensures ∙ ap (λ (xs : List ℕ). length (keep m xs)) (lists-read (S .pre .0) .both-ids)) (ap (λ (n : ℕ). 2 * n) (c .before .before .before .before .count-listed .ensures .0))
+    (c .before .before .before .before .before .before .count-part .ensures ∙ ap (λ (xs : List ℕ). length (keep m xs)) (lists-are (S .pre .0))) (ap (λ (n : ℕ). 2 * n) (c .before .before .before .before .count-listed .ensures .0))
 
 result-size-requires : tie.Need-result-size-requires
 result-size-requires c κs = sizes c ∙ ap (λ (y : Sizes). fitted (countsOf y) (y .ports)) (sym (sizes c))
@@ -111,6 +113,7 @@ plan c =
       sizes = sizes (c .before .before .before .before);
       numbered = record {
         from = omega arith;
+        labels = omega arith;
         few = omega arith;
         heads = heads S;
         links = omega (arith, S .pre .2, S .pre .0 .within .counts .nodes, ap (λ (y : Sizes). y .nodes) (S .pre .0 .sizes));
@@ -135,9 +138,12 @@ returns-2 c = λ next is.
     let S = c .before .before .before .before .before .before .before .before .before .before .before .before .before .before .before .before .before .before .before .before .before .before .before .before .before .before .before .before .before .before .before .before in
     let r = c .before .before .before .before .before .before .before .before .before .before .before .before .before .before .before .result-size in
     let y = c .before .before .before .before .before .before .before .before .before .before .before .before .before .before .before .before .sized .result in
+    let g = graphOf (now (S .args .src)) in
     let h = result S .graph in
     graph-done (now (S .args .src)) next (now (S .args .out)) (S .pre .0) (result S) is y (sizes (c .before .before .before .before .before .before .before .before .before .before .before .before .before .before .before .before)) (r .result) (r .ensures) _ (c .before .before .before .before .before .before .before .before .before .before .before .before .before .size .given .1) _
-    (c .before .before .before .before .rewrite-all .ensures ∙ ap (λ (o : List ℕ). puts o (bodyOf y) 0 (body h)) (c .before .before .before .before .before .before .before .before .before .put-front .ensures) ∙ drawn-numbers (now (S .args .out)) y (labelRow h) [] (body h) 0 refl)
+    (c .before .before .before .before .rewrite-all .ensures
+    ∙ ap (λ (o : List ℕ). puts (puts o (labelsOf y) (S .args .z .nodes) (labelled g (isListed (S .args .z .nodes) (cells (now (S .args .room)))) (entries g))) (bodyOf y) 0 (body h)) (c .before .before .before .before .before .before .before .before .before .put-front .ensures)
+    ∙ drawn-done (plan (c .before .before .before .before .before .before .before .before .before .before .before .before)) (now (S .args .out)))
 
 pub write-spiderized-spec : {M : Type 1} → statement M
 write-spiderized-spec =
