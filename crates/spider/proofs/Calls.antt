@@ -9,18 +9,24 @@ use native.Mathlib.Omega.{arith}
 use lib.Dec.{eqb, leb}
 use lib.ListN.{length, drop}
 use borrow.Author.Tests.{eqb-true, eqb-false, ne-eqb, leb-true}
-use Rattle.form.specs.Form.{counted, tested, Gives}
+use Rattle.form.specs.Form.{counted, tested, reading, refusalIn, refusalRead, meantBy, Gives}
+use Rattle.form.specs.Stored.{graphOf, formatOf, Stored}
 use Rattle.form.specs.declared.Outcome.the-variants as call
+use Rattle.form.specs.declared.Reading.the-variants as reads
+use Rattle.form.specs.declared.Reading.{Reading}
 use Rattle.form.specs.declared.Refusal.{Refusal}
+use Rattle.form.specs.declared.Sizes.{Sizes}
 use Rattle.form.specs.declared.Step.the-variants as step
 use Rattle.form.specs.declared.Step.{Step}
-use Rattle.form.proofs.Answers.{list-answered, test-answered}
+use Rattle.form.proofs.Answers.{gives-refused, list-answered, test-answered}
+use Rattle.form.proofs.Stored.{unread, stored}
 use Rattle.graph.specs.Answer.{Answer, Result, answered, refused, _else_}
 use Rattle.graph.specs.Answer as answer
-use Rattle.graph.specs.Calls.{idList, unpaired, inWorkRoom, spiderizeStep, spiderizeAllStep}
+use Rattle.graph.specs.Calls.{Next, idList, unpaired, inWorkRoom, onGraph, roomSpiderize, spiderizeStep, spiderizeAllStep}
 use Rattle.graph.specs.Graph.{Graph, Format}
 use Rattle.graph.specs.Lists.{among, member, range}
 use Rattle.graph.specs.Spider.{spiderizedAt, spiderize}
+use Rattle.graph.specs.Versions.{read}
 use Rattle.graph.proofs.Kept.{below-range}
 use Rattle.graph.proofs.Lists.{below-true}
 use Rattle.graph.proofs.Steps.{same-answer, passed, stops, goes}
@@ -31,7 +37,7 @@ use Rattle.le.proofs.Numbers.{length-numbers}
 use Rattle.links.specs.Links.{unlisted, isListed, Heads, Linked}
 use Rattle.links.proofs.Cells.{listing}
 use Rattle.links.proofs.Chains.{heads-linked}
-use Rattle.write.proofs.Calls.{work-enough}
+use Rattle.write.proofs.Calls.{gives-by, work-short, work-enough, graph-unread, graph-stopped}
 
 -- the refusal that code passes on
 pub passes : {a : Answer Result} {old : List ℕ} {q x : Refusal} → q ≡ x → Gives a (call.Refused x) old old → Gives a (call.Refused q) old old
@@ -39,9 +45,39 @@ passes {a} {old} e h = subst (λ (k : Refusal). Gives a (call.Refused k) old old
 
 -- ---- the checks
 
-pub room-enough : (needed lent : ℕ) (r : Step) → r ≡ tested (leb needed lent else 10) → (n : ℕ) → r ≡ step.Number n → needed ≤ lent
-unfolding inWorkRoom
-room-enough needed lent r is n e = leb-true needed lent (passed (leb needed lent) 10 (answered n) (work-enough needed lent (answered n) r is n e) .0)
+-- the work room and the form are good: what is known from there on
+pub record Opened (b : List ℕ) (lent : ℕ) (z : Sizes) : Type 0 where
+  pub enough : (a : Answer Result) → inWorkRoom roomSpiderize lent a ≡ a
+  pub roomy : roomSpiderize ≤ lent
+  pub form : Stored b z
+  pub nodes : z .nodes ≡ length (graphOf b .labels)
+  pub pairs : length (graphOf b .pairs) ≡ z .pairs
+
+module _ (b : List ℕ) (lent : ℕ) {w : Step} (tests : w ≡ tested (leb roomSpiderize lent else 10)) where
+  pub opened : {n : ℕ} → w ≡ step.Number n → {r : Reading} → r ≡ reading (read b) → Below 256 b → {z : Sizes} → r ≡ reads.Sized z → Opened b lent z
+  unfolding inWorkRoom
+  opened {n} e {r} is bytes {z} d =
+      let s = stored b r is bytes z d in
+      record {
+        enough = λ a. work-enough roomSpiderize lent a w tests n e;
+        roomy = leb-true roomSpiderize lent (passed (leb roomSpiderize lent) 10 (answered n) (work-enough roomSpiderize lent (answered n) w tests n e) .0);
+        form = s;
+        nodes = ap (λ (y : Sizes). y .nodes) (s .sizes);
+        pairs = sym (ap (λ (y : Sizes). y .pairs) (s .sizes));
+      }
+
+  -- the ways out before that, and after
+  module _ (next : Format → Graph → Answer Next) (old : List ℕ) {q x : Refusal} where
+    pub short : w ≡ step.Refused x → q ≡ refusalIn w → Gives (inWorkRoom roomSpiderize lent (onGraph b (length old) next)) (call.Refused q) old old
+    short e is = passes (is ∙ ap refusalIn e) (gives-refused x old (work-short roomSpiderize lent (onGraph b (length old) next) w tests x e))
+
+    pub unreadable : {n : ℕ} → w ≡ step.Number n → {r : Reading} → r ≡ reading (read b) → r ≡ reads.Refused x → q ≡ refusalRead r
+        → Gives (inWorkRoom roomSpiderize lent (onGraph b (length old) next)) (call.Refused q) old old
+    unreadable {n} e {r} d h is = passes (is ∙ ap refusalRead h) (gives-by (work-enough roomSpiderize lent (onGraph b (length old) next) w tests n e) (graph-unread b next old x (unread b r d x h)))
+
+pub stopped : {b : List ℕ} {lent : ℕ} {z : Sizes} → Opened b lent z → (next : Format → Graph → Answer Next) (old : List ℕ) {s : Step} {q x : Refusal} → s ≡ step.Refused x → q ≡ refusalIn s
+    → next (formatOf b) (graphOf b) ≡ refused (meantBy x) → Gives (inWorkRoom roomSpiderize lent (onGraph b (length old) next)) (call.Refused q) old old
+stopped {b} o next old {x = x} e is h = passes (is ∙ ap refusalIn e) (gives-by (o .enough (onGraph b (length old) next)) (graph-stopped b next old (o .form) x h))
 
 -- n ids, all below the count
 pub record Given (f : Format) (count width : ℕ) (b : List ℕ) (n : ℕ) : Type 0 where

@@ -23,7 +23,7 @@ number-requires : tie.Need-number-requires
 number-requires c κs = let S = c .before .before .before in rw (c .label-row .ensures) (holds-less (stored-rows (S .pre .0) .labels-held) _ (omega (arith, S .pre .1)))
 
 put-number-requires : tie.Need-put-number-requires
-put-number-requires c κs = let S = c .before .before .before .before .before .before in (rw (c .label-row2 .ensures) (holds-less (S .pre .2 .labels) _ (omega (arith, S .pre .3))), c .before .before .number .ensures .1)
+put-number-requires c κs = let S = c .before .before .before .before .before .before in (rw (c .label-row2 .ensures) (holds-less (S .pre .2 .labels) _ (omega (arith, S .pre .3))), omega (arith, c .before .before .number .ensures .1))
 
 returns : tie.Need-returns
 returns c =

@@ -2,75 +2,50 @@
 -- Assumes nothing.
 use mathlib.Core.List.{List, []}
 use mathlib.Core.Path.{_≡_, sym, ap, _∙_}
-use Prim.Native.Nat.{ℕ, _≤_}
+use Prim.Native.Nat.{ℕ}
 use lib.ListN.{length}
 use denote.Ref.{now}
-use Rattle.form.specs.Form.{refusalIn, refusalRead, meantBy}
-use Rattle.form.specs.Stored.{graphOf, formatOf, Stored}
+use Rattle.form.specs.Form.{meantBy}
+use Rattle.form.specs.Stored.{graphOf, formatOf}
 use Rattle.form.specs.declared.Sizes.{Sizes}
-use Rattle.form.proofs.Answers.{gives-refused, list-refused, test-refused}
-use Rattle.form.proofs.Stored.{unread, stored, stored-rows}
-use Rattle.graph.specs.Answer.{Answer, Result, answered}
-use Rattle.graph.specs.Calls.{Next, idList, unpaired, inWorkRoom, onGraph, roomSpiderize, spiderizeStep}
+use Rattle.form.proofs.Answers.{list-refused, test-refused}
+use Rattle.form.proofs.Stored.{stored-rows}
+use Rattle.graph.specs.Answer.{Answer, answered}
+use Rattle.graph.specs.Calls.{Next, idList, unpaired, spiderizeStep}
 use Rattle.graph.specs.Graph.{Graph, Format}
 use Rattle.graph.specs.Lists.{among}
 use Rattle.le.proofs.Numbers.{below-each}
 use Rattle.links.specs.Links.{cells, isListed, Linked}
-use Rattle.write.proofs.Calls.{gives-by, work-short, work-enough, graph-unread, graph-stopped}
+use Rattle.write.proofs.Calls.{gives-by}
 use Rattle.spider.proofs.Parts.{heads-held}
 use Rattle.le.specs.Rows.{rowAt, span}
-use Rattle.spider.proofs.Calls.{passes, room-enough, Given, given, none-paired, step-7, step-8, step-0, listed-ids}
+use Rattle.spider.proofs.Calls.{Opened, opened, short, unreadable, stopped, Given, given, none-paired, step-7, step-8, step-0, listed-ids}
 use borrow.Author.Needs.{needs}
 use native.Mathlib.Omega.{arith}
 use Rattle.spider.proofs.spiderize_nodes.Statement.{statement}
 use Rattle.spider.proofs.spiderize_nodes.Tie as tie
 
--- the call's step, and the call in work room enough
+-- the call's step
 abbrev next : tie.Start → Format → Graph → Answer Next
 next S f = spiderizeStep f (now (S .args .ids))
 
-abbrev call : tie.Start → Answer Result
-call S = onGraph (now (S .args .src)) (length (now (S .args .out))) (next S)
-
-enough : (c : tie.After-enum-told) → inWorkRoom roomSpiderize (length (now (c .before .before .before .before .before .before .before .args .room))) (call (c .before .before .before .before .before .before .before)) ≡ call (c .before .before .before .before .before .before .before)
-enough c = work-enough roomSpiderize _ (call (c .before .before .before .before .before .before .before)) (c .before .before .work-room .result) (c .before .before .work-room .ensures) _ (c .enum-told .given .1)
-
--- the form that was read, and room for its table
-form : (c : tie.After-known-told) → Stored (now (c .before .before .before .before .before .before .before .before .before .before .before .args .src)) (c .before .graph .given .0 .0)
+-- the form that was read, in work room enough
+form : (c : tie.After-known-told) → Opened (now (c .before .before .before .before .before .before .before .before .before .before .before .args .src)) (length (now (c .before .before .before .before .before .before .before .before .before .before .before .args .room))) (c .before .graph .given .0 .0)
 form c =
     let b = now (c .before .before .before .before .before .before .before .before .before .before .before .args .src) in
-    stored b (c .before .before .before .read .result) (c .before .before .before .read .ensures) (below-each 256 b (λ i l. omega (arith, c .before .before .before .before .before .before .before .before .before .before .shared-slice-known .given i))) (c .before .graph .given .0 .0) (c .before .graph .given .1)
-
-roomy : (c : tie.After-known-told) → roomSpiderize ≤ length (now (c .before .before .before .before .before .before .before .before .before .before .before .args .room))
-roomy c = room-enough roomSpiderize _ (c .before .before .before .before .before .before .work-room .result) (c .before .before .before .before .before .before .work-room .ensures) _ (c .before .before .before .before .enum-told .given .1)
-
--- how many pairs and nodes the graph has
-pairs : (c : tie.After-known-told) → length (graphOf (now (c .before .before .before .before .before .before .before .before .before .before .before .args .src)) .pairs) ≡ c .before .graph .given .0 .0 .pairs
-pairs c = sym (ap (λ (y : Sizes). y .pairs) (form c .sizes))
-
-nodes : (c : tie.After-known-told) → c .before .graph .given .0 .0 .nodes ≡ length (graphOf (now (c .before .before .before .before .before .before .before .before .before .before .before .args .src)) .labels)
-nodes c = ap (λ (y : Sizes). y .nodes) (form c .sizes)
+    opened b _ (c .before .before .before .before .before .before .work-room .ensures) (c .before .before .before .before .enum-told .given .1) (c .before .before .before .read .ensures) (below-each 256 b (λ i l. omega (arith, c .before .before .before .before .before .before .before .before .before .before .shared-slice-known .given i))) (c .before .graph .given .1)
 
 returns : tie.Need-returns
-returns c =
-    let S = c .before .before .before .before .before .before .before .before in
-    let x = c .before .enum-told2 .given in
-    let r = c .before .before .before .work-room in
-    passes (c .refusal .ensures ∙ ap refusalIn (x .1)) (gives-refused (x .0 .0) (now (S .args .out)) (work-short roomSpiderize _ (call S) (r .result) (r .ensures) (x .0 .0) (x .1)))
+returns c = let S = c .before .before .before .before .before .before .before .before in short (now (S .args .src)) _ (c .before .before .before .work-room .ensures) (next S) (now (S .args .out)) (c .before .enum-told2 .given .1) (c .refusal .ensures)
 
 returns-2 : tie.Need-returns-2
-returns-2 c =
-    let S = c .before .before .before .before .before .before .before .before .before .before .before in
-    let x = c .before .enum-told3 .given in
-    let r = c .before .before .before .read in
-    passes (c .refusal2 .ensures ∙ ap refusalRead (x .1))
-    (gives-by (enough (c .before .before .before .before)) (graph-unread (now (S .args .src)) (next S) (now (S .args .out)) (x .0 .0) (unread (now (S .args .src)) (r .result) (r .ensures) (x .0 .0) (x .1))))
+returns-2 c = let S = c .before .before .before .before .before .before .before .before .before .before .before in unreadable (now (S .args .src)) _ (c .before .before .before .before .before .before .work-room .ensures) (next S) (now (S .args .out)) (c .before .before .before .before .enum-told .given .1) (c .before .before .before .read .ensures) (c .before .enum-told3 .given .1) (c .refusal2 .ensures)
 
 id-list-requires : tie.Need-id-list-requires
-id-list-requires c κs = stored-rows (form c) .low .width
+id-list-requires c κs = stored-rows (form c .form) .low .width
 
 width : (c : tie.After-known-told) → formatOf (now (c .before .before .before .before .before .before .before .before .before .before .before .args .src)) .width ≡ c .before .graph .given .0 .0 .width
-width c = sym (ap (λ (y : Sizes). y .width) (form c .sizes))
+width c = sym (ap (λ (y : Sizes). y .width) (form c .form .sizes))
 
 returns-3 : tie.Need-returns-3
 returns-3 c =
@@ -78,10 +53,10 @@ returns-3 c =
     let b = now (S .args .src) in
     let x = c .before .enum-told4 .given in
     let l = c .before .before .before .id-list in
+    let o = form (c .before .before .before .before) in
     let e = list-refused _ (l .result) (l .ensures (formatOf b) (width (c .before .before .before .before))) (x .0 .0) (x .1) in
-    passes (c .refusal3 .ensures ∙ ap refusalIn (x .1))
-    (gives-by (enough (c .before .before .before .before .before .before .before .before)) (graph-stopped b (next S) (now (S .args .out)) (form (c .before .before .before .before)) (x .0 .0)
-    (step-7 (formatOf b) (now (S .args .ids)) (graphOf b) (meantBy (x .0 .0)) (ap (λ (n : ℕ). idList (formatOf b) n (now (S .args .ids))) (sym (nodes (c .before .before .before .before))) ∙ e))))
+    stopped o (next S) (now (S .args .out)) (x .1) (c .refusal3 .ensures)
+    (step-7 (formatOf b) (now (S .args .ids)) (graphOf b) (meantBy (x .0 .0)) (ap (λ (n : ℕ). idList (formatOf b) n (now (S .args .ids))) (sym (o .nodes)) ∙ e))
 
 -- the list that was checked
 abbrev chosen : tie.After-known-told2 → List ℕ
@@ -92,11 +67,10 @@ list c =
     let z = c .before .before .before .before .before .graph .given .0 .0 in
     let f = formatOf (now (c .before .before .before .before .before .before .before .before .before .before .before .before .before .before .before .args .src)) in
     let l = c .before .before .before .id-list in
-    given f (z .nodes) (z .width) (now (c .before .before .before .before .before .before .before .before .before .before .before .before .before .before .before .args .ids)) (stored-rows (form (c .before .before .before .before)) .low .width) (width (c .before .before .before .before)) (l .result) (l .ensures f (width (c .before .before .before .before))) _ (c .before .list .given .1)
+    given f (z .nodes) (z .width) (now (c .before .before .before .before .before .before .before .before .before .before .before .before .before .before .before .args .ids)) (stored-rows (form (c .before .before .before .before) .form) .low .width) (width (c .before .before .before .before)) (l .result) (l .ensures f (width (c .before .before .before .before))) _ (c .before .list .given .1)
 
-is-list : (c : tie.After-known-told2) → idList (formatOf (now (c .before .before .before .before .before .before .before .before .before .before .before .before .before .before .before .args .src))) (length (graphOf (now (c .before .before .before .before .before .before .before .before .before .before .before .before .before .before .before .args .src)) .labels)) (now (c .before .before .before .before .before .before .before .before .before .before .before .before .before .before .before .args .ids))
-    ≡ answered (chosen c)
-is-list c = ap (λ (n : ℕ). idList (formatOf (now (c .before .before .before .before .before .before .before .before .before .before .before .before .before .before .before .args .src))) n (now (c .before .before .before .before .before .before .before .before .before .before .before .before .before .before .before .args .ids))) (sym (nodes (c .before .before .before .before))) ∙ list c .is
+is-list : (c : tie.After-known-told2) → idList (formatOf (now (c .before .before .before .before .before .before .before .before .before .before .before .before .before .before .before .args .src))) (length (graphOf (now (c .before .before .before .before .before .before .before .before .before .before .before .before .before .before .before .args .src)) .labels)) (now (c .before .before .before .before .before .before .before .before .before .before .before .before .before .before .before .args .ids)) ≡ answered (chosen c)
+is-list c = let a = c .before .before .before .before .before .before .before .before .before .before .before .before .before .before .before .args in ap (λ (n : ℕ). idList (formatOf (now (a .src))) n (now (a .ids))) (sym (form (c .before .before .before .before) .nodes)) ∙ list c .is
 
 returns-4 : tie.Need-returns-4
 returns-4 c =
@@ -105,36 +79,37 @@ returns-4 c =
     let g = graphOf b in
     let x = c .before .enum-told6 .given in
     let u = c .before .before .before .unpaired in
-    passes (c .refusal4 .ensures ∙ ap refusalIn (x .1))
-    (gives-by (enough (c .before .before .before .before .before .before .before .before .before .before .before .before)) (graph-stopped b (next S) (now (S .args .out)) (form (c .before .before .before .before .before .before .before .before)) (x .0 .0)
-    (step-8 (formatOf b) (now (S .args .ids)) g _ (is-list (c .before .before .before .before)) (meantBy (x .0 .0)) (test-refused (unpaired g) (u .result) (u .ensures g (pairs (c .before .before .before .before .before .before .before .before))) (x .0 .0) (x .1)))))
+    let o = form (c .before .before .before .before .before .before .before .before) in
+    stopped o (next S) (now (S .args .out)) (x .1) (c .refusal4 .ensures)
+    (step-8 (formatOf b) (now (S .args .ids)) g _ (is-list (c .before .before .before .before)) (meantBy (x .0 .0)) (test-refused (unpaired g) (u .result) (u .ensures g (o .pairs)) (x .0 .0) (x .1)))
 
 list-none-requires : tie.Need-list-none-requires
-list-none-requires c κs = heads-held (form (c .before .before .before .before .before .before .before .before)) (now (c .before .before .before .before .before .before .before .before .before .before .before .before .before .before .before .before .before .before .before .args .room)) (roomy (c .before .before .before .before .before .before .before .before))
+list-none-requires c κs = let o = form (c .before .before .before .before .before .before .before .before) in heads-held (o .form) (now (c .before .before .before .before .before .before .before .before .before .before .before .before .before .before .before .before .before .before .before .args .room)) (o .roomy)
 
 list-ids-requires : tie.Need-list-ids-requires
 list-ids-requires c κs =
     let l = list (c .before .before .before .before .before .before .before .before) in
-    (l .held, l .below, heads-held (form (c .before .before .before .before .before .before .before .before .before .before .before .before)) (c .before .before .before .list-none .last .0) (omega (arith, roomy (c .before .before .before .before .before .before .before .before .before .before .before .before), c .before .before .before .list-none .kept .0)))
+    let o = form (c .before .before .before .before .before .before .before .before .before .before .before .before) in
+    (l .held, l .below, heads-held (o .form) (c .before .before .before .list-none .last .0) (omega (arith, o .roomy, c .before .before .before .list-none .kept .0)))
 
 -- no pair is pending, and the table lists the nodes of the list
 none : (c : tie.After-enum-told5) → length (graphOf (now (c .before .before .before .before .before .before .before .before .before .before .before .before .before .before .before .before .before .before .args .src)) .pairs) ≡ 0
-none c = let u = c .before .before .unpaired in none-paired (graphOf (now (c .before .before .before .before .before .before .before .before .before .before .before .before .before .before .before .before .before .before .args .src))) (u .result) (u .ensures (graphOf (now (c .before .before .before .before .before .before .before .before .before .before .before .before .before .before .before .before .before .before .args .src))) (pairs (c .before .before .before .before .before .before .before))) _ (c .enum-told5 .given .1)
+none c = let g = graphOf (now (c .before .before .before .before .before .before .before .before .before .before .before .before .before .before .before .before .before .before .args .src)) in let u = c .before .before .unpaired in none-paired g (u .result) (u .ensures g (form (c .before .before .before .before .before .before .before) .pairs)) _ (c .enum-told5 .given .1)
 
-listed : (c : tie.After-list-ids) → (isListed (c .before .before .before .before .before .before .before .before .before .before .before .before .before .before .graph .given .0 .0 .nodes) (cells (c .list-ids .last .0)) ≡ among (chosen (c .before .before .before .before .before .before .before .before .before)))
-    × Linked (c .before .before .before .before .before .before .before .before .before .before .before .before .before .before .graph .given .0 .0 .nodes) (cells (c .list-ids .last .0)) (c .before .before .before .before .before .before .before .before .before .before .before .before .before .before .graph .given .0 .0 .nodes) (λ k x. [])
+listed : (c : tie.After-list-ids) → (isListed (c .before .before .before .before .before .before .before .before .before .before .before .before .before .before .graph .given .0 .0 .nodes) (cells (c .list-ids .last .0)) ≡ among (chosen (c .before .before .before .before .before .before .before .before .before))) × Linked (c .before .before .before .before .before .before .before .before .before .before .before .before .before .before .graph .given .0 .0 .nodes) (cells (c .list-ids .last .0)) (c .before .before .before .before .before .before .before .before .before .before .before .before .before .before .graph .given .0 .0 .nodes) (λ k x. [])
 listed c = listed-ids (c .before .before .before .before .before .before .before .before .before .before .before .before .before .before .graph .given .0 .0 .nodes) (cells (c .list-ids .last .0)) (chosen (c .before .before .before .before .before .before .before .before .before)) (list (c .before .before .before .before .before .before .before .before .before) .below) (c .list-ids .ensures (c .before .before .before .before .list-none .ensures))
 
 write-spiderized-requires : tie.Need-write-spiderized-requires
 write-spiderized-requires c κs =
     let l = listed (c .before .before .before .before) in
-    (form (c .before .before .before .before .before .before .before .before .before .before .before .before .before .before .before .before .before), sym (pairs (c .before .before .before .before .before .before .before .before .before .before .before .before .before .before .before .before .before)) ∙ none (c .before .before .before .before .before .before .before .before .before .before), omega (arith, roomy (c .before .before .before .before .before .before .before .before .before .before .before .before .before .before .before .before .before), c .before .before .before .before .list-ids .kept .0, c .before .before .before .before .before .before .before .before .list-none .kept .0), l .1, (chosen (c .before .before .before .before .before .before .before .before .before .before .before .before .before), l .0))
+    let o = form (c .before .before .before .before .before .before .before .before .before .before .before .before .before .before .before .before .before) in
+    (o .form, sym (o .pairs) ∙ none (c .before .before .before .before .before .before .before .before .before .before), omega (arith, o .roomy, c .before .before .before .before .list-ids .kept .0, c .before .before .before .before .before .before .before .before .list-none .kept .0), l .1, (chosen (c .before .before .before .before .before .before .before .before .before .before .before .before .before), l .0))
 
 returns-5 : tie.Need-returns-5
 returns-5 c =
     let S = c .before .before .before .before .before .before .before .before .before .before .before .before .before .before .before .before .before .before .before .before .before .before .before .before .before .before .before .before .before .before .before .before .before in
     let b = now (S .args .src) in
-    gives-by (enough (c .before .before .before .before .before .before .before .before .before .before .before .before .before .before .before .before .before .before .before .before .before .before .before .before .before .before)) (c .before .before .before .before .write-spiderized .ensures (next S) (step-0 (formatOf b) (now (S .args .ids)) (graphOf b) _ (is-list (c .before .before .before .before .before .before .before .before .before .before .before .before .before .before .before .before .before .before)) (none (c .before .before .before .before .before .before .before .before .before .before .before .before .before .before .before)) _ (listed (c .before .before .before .before .before .before .before .before .before) .0)))
+    gives-by (form (c .before .before .before .before .before .before .before .before .before .before .before .before .before .before .before .before .before .before .before .before .before .before) .enough _) (c .before .before .before .before .write-spiderized .ensures (next S) (step-0 (formatOf b) (now (S .args .ids)) (graphOf b) _ (is-list (c .before .before .before .before .before .before .before .before .before .before .before .before .before .before .before .before .before .before)) (none (c .before .before .before .before .before .before .before .before .before .before .before .before .before .before .before)) _ (listed (c .before .before .before .before .before .before .before .before .before) .0)))
 
 pub spiderize-nodes-spec : {M : Type 1} → statement M
 spiderize-nodes-spec =
