@@ -218,7 +218,7 @@ fn put_chains(
 }
 
 // The two spiders of a node into a row, if it is listed: side 0 from its global sources to its edge sources, side 1 from its edge targets to its global targets.
-// One call writes both, so that the compiler puts `put_chains` in its place. Answered is the next index.
+// Both are written by a call of `put_chains` from one place, so that the compiler inlines it. Answered is the next index.
 fn put_spider(room: &[u8], nodes: usize, id: usize, out: &mut [u8], r: Row, k: usize) -> usize
     requires { ⌜ (id < nodes) × (id < 2 ^ 32) × ((fresh : ℕ → ℕ → List ℕ) × Table nodes (now room) fresh × Holds (now out) r (k + length (spidersOf nodes (cells (now room)) fresh (id ∷ [])))) ⌝ }
     ensures { λ n. ⌜ ((fresh : ℕ → ℕ → List ℕ) → Table nodes (now (room .entry)) fresh

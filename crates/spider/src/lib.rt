@@ -106,7 +106,8 @@ fn kind_at(first: usize, a: usize, b: usize, i: usize) -> usize
     if i < first { a } else { b }
 }
 
-// The sources and targets of an edge rewritten, where they stand. Both in one loop and by one call, so that the compiler puts it in its place. Answered is the next fresh node.
+// The sources and targets of an edge rewritten, where they stand: in one loop, and called from one place only, so that the compiler inlines it all into the loop over the
+// edges. Answered is the next fresh node.
 fn rewrite_edge(
     src: &[u8],
     z: Sizes,
@@ -148,7 +149,7 @@ fn rewrite_edges(src: &[u8], z: Sizes, y: Sizes, room: &mut [u8], out: &mut [u8]
     next
 }
 
-// The global sources and targets rewritten, to where they stand in the result.
+// The global sources and targets rewritten, to where they stand in the result. Answered is the next fresh node.
 fn rewrite_lists(
     src: &[u8],
     z: Sizes,
