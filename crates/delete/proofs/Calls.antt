@@ -91,9 +91,9 @@ unmarked-deleted room n list g e = ap (λ (goes : ℕ → Bool). withEdges (rema
 -- ---- deleting nodes
 
 -- marked or listed is the same
-pub nodes-deleted : (room : List ℕ) (n : ℕ) (list : List ℕ) (g : Graph) → marked room n ≡ among list → withoutNodes (marked room n) g ≡ deleteNodes list g
+pub nodes-deleted : {goes : ℕ → Bool} (list : List ℕ) (g : Graph) → goes ≡ among list → withoutNodes goes g ≡ deleteNodes list g
 unfolding deleteNodes
-nodes-deleted room n list g e = ap (λ (goes : ℕ → Bool). withoutNodes goes g) e
+nodes-deleted list g e = ap (λ (goes : ℕ → Bool). withoutNodes goes g) e
 
 pub passes-map : {a : Answer Result} {old oldMap : List ℕ} {q x : Refusal} → q ≡ x → a ≡ refused (meantBy x) → GivesMap a (call.Refused q) old old oldMap oldMap
 passes-map {a} {old} {oldMap} {q} {x} e h = subst (λ (k : Refusal). GivesMap a (call.Refused k) old old oldMap oldMap) (sym e) (gives-map-refused x old oldMap h)

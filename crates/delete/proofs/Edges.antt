@@ -2,7 +2,7 @@
 -- Assumes nothing.
 use mathlib.Core.Bool.{Bool}
 use mathlib.Core.List.{List, [], _∷_, _++_}
-use mathlib.Core.Path.{_≡_, sym, ap, _∙_, subst}
+use mathlib.Core.Path.{_≡_, sym, ap, _∙_, subst, subst₂}
 use Prim.Native.Nat.{ℕ, _+_, _-_, _^_, _≤_, _<_}
 use native.Mathlib.Nat.{zero-add}
 use native.Mathlib.Omega.{arith}
@@ -39,8 +39,6 @@ pub record Met (b : List ℕ) (r : Row) (z : Sizes) (i k : ℕ) (e : EdgeAt) : T
   pub targets : span b r (e .first + e .sources) (e .targets) ≡ edgeNo b i .targets
   pub ids : span b r (e .first) (e .sources + e .targets) ≡ edgeNo b i .sources ++ edgeNo b i .targets
   pub whole : span b r k (e .end - k) ≡ edgeRow (edgeNo b i)
-  pub sources-known : Below (z .nodes) (span b r (e .first) (e .sources))
-  pub targets-known : Below (z .nodes) (span b r (e .first + e .sources) (e .targets))
   pub ids-known : Below (z .nodes) (span b r (e .first) (e .sources + e .targets))
   pub low : e .sources + e .targets < 2 ^ 32
 
@@ -73,8 +71,6 @@ module _ {b : List ℕ} {z : Sizes} (s : Stored b z) (i k : ℕ) (l : i < z .edg
       let many : e .end - k ≡ 2 + (e .sources + e .targets) = omega arith in
       let inside = edge-less s i l in
       let nodes : length (graphOf b .labels) ≡ z .nodes = sym (ap (λ (y : Sizes). y .nodes) (s .sizes)) in
-      let sources-known = subst (Below (z .nodes)) (sym sources) (subst (λ (n : ℕ). Below n (d .sources)) nodes (h .sources-known)) in
-      let targets-known = subst (Below (z .nodes)) (sym targets) (subst (λ (n : ℕ). Below n (d .targets)) nodes (h .targets-known)) in
       let found : Met b body z i k e =
       record {
         first = first;
@@ -87,11 +83,7 @@ module _ {b : List ℕ} {z : Sizes} (s : Stored b z) (i k : ℕ) (l : i < z .edg
         whole =
             ap (span b body k) many ∙ span-append b body k 2 (e .sources + e .targets)
             ∙ (λ j. (span-two b body k ∙ λ j. a j ∷ c j ∷ []) j ++ ((λ j. span b body (sym first j) (e .sources + e .targets)) ∙ ids) j);
-        sources-known = sources-known;
-        targets-known = targets-known;
-        ids-known =
-            subst (Below (z .nodes)) (sym (span-append b body (e .first) (e .sources) (e .targets)))
-            (below-append (z .nodes) (span b body (e .first) (e .sources)) _ sources-known targets-known);
+        ids-known = subst₂ Below nodes (sym ids) (below-append _ (d .sources) (d .targets) (h .sources-known) (h .targets-known));
         low = omega (arith, at-edge es [] i inside .inside, length-edge-rows es, s .within .counts .edges, s .within .ports);
       } in
       subst (λ (r : Row). Met b r z i k e) (sym is) found

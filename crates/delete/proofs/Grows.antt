@@ -138,22 +138,16 @@ module _ (goes : ℕ → Bool) where
       pick false true = refl
       pick false false = refl
 
-  -- a pair of which both ends stay, as a part of the row
-  pub pair-put : (b : List ℕ) (r : Row) (k n : ℕ) → n ≡ length (renamedPairs goes (paired (span b r k 2)))
-      → renamed goes (span b r k (2 * n)) ≡ flat (renamedPairs goes (paired (span b r k 2)))
-  unfolding span
-  pair-put b r k n e =
-      let two = span-two b r k in
-      let many : n ≡ cond (goes (entry b r k)) 0 (cond (goes (entry b r (k + 1))) 0 1) =
-      e ∙ ap (λ (l : List ℕ). length (renamedPairs goes (paired l))) two ∙ pair-stays (entry b r k) (entry b r (k + 1)) in
-      ap (λ (m : ℕ). renamed goes (span b r k (2 * m))) many ∙ pick (entry b r k) (entry b r (k + 1)) two (goes (entry b r k)) (goes (entry b r (k + 1))) refl refl
-      ∙ sym (ap (λ (l : List ℕ). flat (renamedPairs goes (paired l))) two)
+  -- a pair of the row: its new ids, or none
+  pub pair-moved : (b : List ℕ) (r : Row) (k : ℕ) → flat (renamedPairs goes (paired (span b r k 2)))
+      ≡ cond (goes (entry b r k)) [] (cond (goes (entry b r (k + 1))) [] (newId goes (entry b r k) ∷ newId goes (entry b r (k + 1)) ∷ []))
+  pair-moved b r k = ap (λ (l : List ℕ). flat (renamedPairs goes (paired l))) (span-two b r k) ∙ pick (entry b r k) (entry b r (k + 1)) (goes (entry b r k)) (goes (entry b r (k + 1)))
     where
-      pick : (v w : ℕ) → span b r k 2 ≡ v ∷ w ∷ [] → (c d : Bool) → goes v ≡ c → goes w ≡ d
-          → renamed goes (span b r k (2 * cond c 0 (cond d 0 1))) ≡ flat (renamedPairs goes ((v, w) ∷ []))
-      pick v w t true d p q = rw p
-      pick v w t false true p q = rw (p, q)
-      pick v w t false false p q = ap (renamed goes) t ∙ rw (p, q)
+      pick : (v w : ℕ) (c d : Bool) → flat (map (λ (p : ℕ × ℕ). (newId goes (p .0), newId goes (p .1))) (cond (not c && not d) ((v, w) ∷ []) []))
+          ≡ cond c [] (cond d [] (newId goes v ∷ newId goes w ∷ []))
+      pick v w true d = refl
+      pick v w false true = refl
+      pick v w false false = refl
 
   -- an id that goes, and one that stays
   pub gone : (id : ℕ) → goes id ≡ true → renamed goes (id ∷ []) ≡ []

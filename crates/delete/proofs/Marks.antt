@@ -1,16 +1,18 @@
--- The marks in the work room: a byte that is not 0, of one of the first ids.
+-- The marks in the work room: a byte that is not 0, of one of the first ids. The places in the map: the highest number, of one of the nodes.
 -- Assumes nothing.
 use mathlib.Core.Bool.{Bool, true, false, not, _&&_, _||_, or-assoc}
 use mathlib.Core.List.{List, [], _∷_, _++_}
 use mathlib.Core.Path.{_≡_, refl, sym, ap, _∙_}
-use Prim.Native.Nat.{ℕ, _+_, _≤_, _<_}
+use Prim.Native.Nat.{ℕ, _+_, _-_, _^_, _≤_, _<_}
 use native.Mathlib.Nat.{zero-add}
 use native.Mathlib.Omega.{arith}
 use lib.Dec.{ltb, eqb}
 use lib.ListN.{length, getD, set, replicate, length-replicate, getD-replicate}
 use lib.Seq.{sets, getD-set-same, getD-set-other}
-use borrow.Author.Tests.{lt-ltb, ltb-true, eqb-true, eqb-false, eq-eqb, ne-eqb}
-use Rattle.delete.specs.Marks.{marked}
+use borrow.Author.Tests.{lt-ltb, le-ltb, ltb-true, eqb-true, eqb-false, eq-eqb, ne-eqb}
+use Rattle.le.specs.Rows.{entry}
+use Rattle.form.specs.declared.Sizes.{Sizes}
+use Rattle.delete.specs.Marks.{marked, mapOf, goneIn}
 use Rattle.graph.specs.Lists.{member, among}
 use Rattle.le.proofs.Tables.{getD-sets}
 
@@ -22,6 +24,21 @@ module _ (room : List ℕ) (n id : ℕ) (less : id < n) where
   pub goes : (getD room id 0 ≡ 0 → ⊥) → marked room n id ≡ true
   unfolding marked
   goes h = rw (lt-ltb id n less, ne-eqb (getD room id 0) 0 h)
+
+pub outside : (room : List ℕ) (n id : ℕ) → n ≤ id → marked room n id ≡ false
+unfolding marked
+outside room n id h = rw (le-ltb id n h)
+
+-- ---- by the map
+
+module _ (z : Sizes) (table : List ℕ) (id : ℕ) (less : id < z .nodes) where
+  pub placed : (entry table (mapOf z) id ≡ 256 ^ z .width - 1 → ⊥) → goneIn z table id ≡ false
+  unfolding goneIn
+  placed h = rw (lt-ltb id (z .nodes) less, ne-eqb (entry table (mapOf z) id) (256 ^ z .width - 1) h)
+
+  pub unplaced : entry table (mapOf z) id ≡ 256 ^ z .width - 1 → goneIn z table id ≡ true
+  unfolding goneIn
+  unplaced e = rw (lt-ltb id (z .nodes) less, eq-eqb (entry table (mapOf z) id) (256 ^ z .width - 1) e)
 
 -- ---- no mark, and one mark more
 

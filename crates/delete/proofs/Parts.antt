@@ -6,6 +6,8 @@ use mathlib.Core.Path.{_≡_, refl, sym, ap, _∙_, subst}
 use Prim.Native.Nat.{ℕ, zero, suc, _+_, _*_, _-_, _^_, _≤_, _<_}
 use native.Mathlib.Nat.{add-zero, zero-add, not-suc-le-zero, le-of-suc-le-suc}
 use native.Mathlib.Omega.{arith}
+use lib.Dec.{ltb}
+use borrow.Author.Tests.{ltb-true, ltb-false}
 use lib.ListN.{length, getD, drop, length-append, length-map}
 use lib.Seq.{sets}
 use Rattle.le.specs.Le.{Below, row, numberAt}
@@ -15,7 +17,7 @@ use Rattle.graph.specs.Delete.{remaining, newId, renamed, renamedEdge, renamedP
 use Rattle.graph.specs.Form.{edgeRow}
 use Rattle.graph.specs.Graph.{Edge, Graph, Format}
 use Rattle.graph.specs.Lists.{joined, flat, paired, range}
-use Rattle.form.specs.Form.{sizesOf, labelsOf, bodyOf, bodySize, listsFrom}
+use Rattle.form.specs.Form.{sizesOf, Low, labelsOf, bodyOf, bodySize, listsFrom}
 use Rattle.form.specs.Stored.{graphOf, Stored}
 use Rattle.form.specs.declared.Sizes.{Sizes}
 use Rattle.write.specs.Write.{headed, drawn, Put, Room}
@@ -25,27 +27,28 @@ use Rattle.graph.proofs.WriteRead.{paired-flat}
 use Rattle.graph.proofs.Rows.{length-label-row, length-body}
 use Rattle.form.proofs.Stored.{stored-rows}
 use Rattle.le.proofs.Numbers.{below-each, below-widen, length-row, number-at}
-use Rattle.le.proofs.Rows.{length-span, span-append}
+use Rattle.le.proofs.Rows.{length-span, span-append, holds-same, length-puts}
 use Rattle.le.proofs.Stores.{sets-front}
-use Rattle.delete.specs.Marks.{mapOf, placesOf}
+use Rattle.delete.specs.Marks.{mapOf, placesOf, goneIn, Mapped}
+use Rattle.delete.proofs.Marks.{placed, unplaced}
 use Rattle.delete.proofs.Grows.{renamed-append}
 
 pub at-row : {b : List ℕ} {r s : Row} {n : ℕ} → r ≡ s → Holds b s n → Holds b r n
 at-row {b} {n = n} e h = subst (λ (r : Row). Holds b r n) (sym e) h
 
 -- a part copied, of which it is known what it holds
-pub copied : (b : List ℕ) (j n : ℕ) {out new : List ℕ} {to from row : Row} {k next : ℕ} {xs : List ℕ} → new ≡ puts out to k (span b from j n) → from ≡ row → span b row j n ≡ xs
-    → next ≡ k + n → Put out to k xs new next
-copied b j n {out} {to = to} {row = row} {k = k} h e is past = record {
-  stored = h ∙ ap (λ (r : Row). puts out to k (span b r j n)) e ∙ ap (puts out to k) is;
+pub copied : (b : List ℕ) (j n : ℕ) {out new : List ℕ} {to into from row : Row} {k next : ℕ} {xs : List ℕ} → new ≡ puts out to k (span b from j n) → to ≡ into → from ≡ row
+    → span b row j n ≡ xs → next ≡ k + n → Put out into k xs new next
+copied b j n {out} {into = into} {row = row} {k = k} h to from is past = record {
+  stored = h ∙ (λ i. puts out (to i) k (span b (from i) j n)) ∙ ap (puts out into k) is;
   next = past ∙ ap (λ (m : ℕ). k + m) (sym (length-span b row j n) ∙ ap length is);
 }
 
 -- the header, all labels, and all counts and ids
-pub drawn-by : (old : List ℕ) (y : Sizes) {mid new : List ℕ} {r q : Row} {ls ns : List ℕ} {j i : ℕ} → r ≡ labelsOf y → q ≡ bodyOf y → Put (headed old y) r 0 ls mid j
+pub drawn-by : (old : List ℕ) (y : Sizes) {mid new : List ℕ} {q : Row} {ls ns : List ℕ} {j i : ℕ} → q ≡ bodyOf y → Put (headed old y) (labelsOf y) 0 ls mid j
     → Put mid q 0 ns new i → new ≡ drawn old y ls ns
 unfolding drawn
-drawn-by old y {ls = ls} {ns = ns} a b p q = q .stored ∙ (λ i. puts (p .stored i) (b i) 0 ns) ∙ ap (λ (r : Row). puts (puts (headed old y) r 0 ls) (bodyOf y) 0 ns) a
+drawn-by old y {ns = ns} e p q = q .stored ∙ λ i. puts (p .stored i) (e i) 0 ns
 
 module _ {out : List ℕ} {y : Sizes} (room : Room out y) (f : Format) (h : Graph) (is : y ≡ sizesOf f h) where
   pub labels-room : Holds out (labelsOf y) (length (h .labels) + length (map (λ (e : Edge). e .label) (h .edges)))
@@ -67,11 +70,8 @@ remaining-map {A} {B} goes f id (x ∷ xs) = pick (goes id) (remaining-map goes 
     pick false k = ap (λ (r : List B). f x ∷ r) k
 
 module _ {b : List ℕ} {z : Sizes} (s : Stored b z) where
-  pub left-labels : (goes : ℕ → Bool) (r : Row) → r ≡ labelsOf z
-      → remaining goes 0 (span b r (z .nodes) (z .edges)) ≡ map (λ (e : Edge). e .label) (remaining goes 0 (graphOf b .edges))
-  left-labels goes r e =
-      ap (λ (r : Row). remaining goes 0 (span b r (z .nodes) (z .edges))) e ∙ ap (remaining goes 0) (stored-rows s .edge-labels)
-      ∙ remaining-map goes (λ (e : Edge). e .label) 0 (graphOf b .edges)
+  pub left-labels : (goes : ℕ → Bool) → remaining goes 0 (span b (labelsOf z) (z .nodes) (z .edges)) ≡ map (λ (e : Edge). e .label) (remaining goes 0 (graphOf b .edges))
+  left-labels goes = ap (remaining goes 0) (stored-rows s .edge-labels) ∙ remaining-map goes (λ (e : Edge). e .label) 0 (graphOf b .edges)
 
   pub ids-there : span b (bodyOf z) (listsFrom z) (z .sources + z .targets) ≡ graphOf b .sources ++ graphOf b .targets
   ids-there =
@@ -122,23 +122,58 @@ places-at at from (suc n) (suc i) h =
     let q : suc from + i ≡ from + suc i = omega arith in
     places-at at (suc from) n i (le-of-suc-le-suc h) ∙ ap at q
 
-pub map-there : (z : Sizes) (goes : ℕ → Bool) (old : List ℕ) → Holds old (mapOf z) (z .nodes) → z .nodes < 256 ^ z .width → (i : ℕ) → i < z .nodes → goes i ≡ false
-    → entry (puts old (mapOf z) 0 (placesOf (z .width) goes (z .nodes))) (mapOf z) i ≡ newId goes i
-unfolding entry puts
-map-there z goes old room small i l stays =
-    let w = z .width in
-    let at : ℕ → ℕ = λ id. cond (goes id) (256 ^ w - 1) (newId goes id) in
-    let ns = placesOf w goes (z .nodes) in
-    let many : length ns ≡ z .nodes = length-map (range 0 (z .nodes)) at ∙ length-range 0 (z .nodes) in
-    let rest = drop (length (row w ns)) old in
-    let start : placeIn (mapOf z) 0 ≡ 0 = omega arith in
-    let front : sets old (placeIn (mapOf z) 0) (row w ns) ≡ row w ns ++ rest =
-    ap (λ (k : ℕ). sets old k (row w ns)) start ∙ sets-front old (row w ns) (rw (length-row w ns, many) (omega (arith, room .inside))) in
-    let each : (k : ℕ) → k < z .nodes → getD ns k 0 ≡ at k = λ k m. places-at at 0 (z .nodes) k m ∙ ap at (zero-add k) in
-    let below : Below (256 ^ w) ns = below-each (256 ^ w) ns (λ k m. rw (each k (omega arith)) (fits k (goes k) (omega arith))) in
-    ap (λ (b : List ℕ). numberAt w b (placeIn (mapOf z) i)) front ∙ number-at w i [] ns rest below (omega arith) ∙ each i l
-    ∙ ap (λ (c : Bool). cond c (256 ^ w - 1) (newId goes i)) stays
-  where
-    fits : (k : ℕ) (c : Bool) → k < z .nodes → cond c (256 ^ z .width - 1) (newId goes k) < 256 ^ z .width
-    fits k true m = omega arith
-    fits k false m = omega (arith, new-id-le goes k)
+module _ (z : Sizes) (goes : ℕ → Bool) (old : List ℕ) (room : Holds old (mapOf z) (z .nodes)) (small : z .nodes < 256 ^ z .width) where
+  abbrev place : ℕ → ℕ
+  place id = cond (goes id) (256 ^ z .width - 1) (newId goes id)
+
+  abbrev table : List ℕ
+  table = puts old (mapOf z) 0 (placesOf (z .width) goes (z .nodes))
+
+  new-low : (i : ℕ) → i < z .nodes → newId goes i < 256 ^ z .width - 1
+  new-low i l = omega (arith, new-id-le goes i)
+
+  place-there : (i : ℕ) → i < z .nodes → entry table (mapOf z) i ≡ place i
+  unfolding entry puts
+  place-there i l =
+      let w = z .width in
+      let ns = placesOf w goes (z .nodes) in
+      let many : length ns ≡ z .nodes = length-map (range 0 (z .nodes)) place ∙ length-range 0 (z .nodes) in
+      let rest = drop (length (row w ns)) old in
+      let start : placeIn (mapOf z) 0 ≡ 0 = omega arith in
+      let front : sets old (placeIn (mapOf z) 0) (row w ns) ≡ row w ns ++ rest =
+      ap (λ (k : ℕ). sets old k (row w ns)) start ∙ sets-front old (row w ns) (rw (length-row w ns, many) (omega (arith, room .inside))) in
+      let each : (k : ℕ) → k < z .nodes → getD ns k 0 ≡ place k = λ k m. places-at place 0 (z .nodes) k m ∙ ap place (zero-add k) in
+      let below : Below (256 ^ w) ns = below-each (256 ^ w) ns (λ k m. rw (each k (omega arith)) (fits k (goes k) (omega arith))) in
+      ap (λ (b : List ℕ). numberAt w b (placeIn (mapOf z) i)) front ∙ number-at w i [] ns rest below (omega arith) ∙ each i l
+    where
+      fits : (k : ℕ) (c : Bool) → k < z .nodes → cond c (256 ^ z .width - 1) (newId goes k) < 256 ^ z .width
+      fits k true m = omega arith
+      fits k false m = omega (arith, new-low k m)
+
+  -- new ids are below the highest number: so the map tells which nodes go
+  tells : ((i : ℕ) → z .nodes ≤ i → goes i ≡ false) → goes ≡ goneIn z table
+  unfolding goneIn
+  tells outside = λ k i. pick i (ltb i (z .nodes)) refl (goes i) refl k
+    where
+      pick : (i : ℕ) (c : Bool) → ltb i (z .nodes) ≡ c → (d : Bool) → goes i ≡ d → goes i ≡ goneIn z table i
+      pick i false e d g = outside i (ltb-false i (z .nodes) e) ∙ rw e
+      pick i true e true g =
+          let l = ltb-true i (z .nodes) e in
+          g ∙ sym (unplaced z table i l (place-there i l ∙ ap (λ (c : Bool). cond c (256 ^ z .width - 1) (newId goes i)) g))
+      pick i true e false g =
+          let l = ltb-true i (z .nodes) e in
+          let at = place-there i l ∙ ap (λ (c : Bool). cond c (256 ^ z .width - 1) (newId goes i)) g in
+          g ∙ sym (placed z table i l (λ h. omega (arith, at, h, new-low i l)))
+
+  pub map-made : Low z → ((i : ℕ) → z .nodes ≤ i → goes i ≡ false) → {new : List ℕ} → new ≡ table → Mapped z new × (goes ≡ goneIn z new)
+  map-made low outside {new} is =
+      let same = tells outside in
+      subst (λ (t : List ℕ). Mapped z t × (goes ≡ goneIn z t)) (sym is) (
+        record {
+          low = low;
+          held = holds-same room table (length-puts old (mapOf z) 0 (placesOf (z .width) goes (z .nodes)));
+          new = subst (λ (gone : ℕ → Bool). (i : ℕ) → i < z .nodes → gone i ≡ false → entry table (mapOf z) i ≡ newId gone i) same
+              (λ i l g. place-there i l ∙ ap (λ (c : Bool). cond c (256 ^ z .width - 1) (newId goes i)) g);
+        },
+        same,
+      )

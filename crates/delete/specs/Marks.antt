@@ -1,10 +1,10 @@
 -- What the work room and the map say of ids: a byte of the room stands for each id, and a number of the map for each old node.
 -- Assumes nothing.
 use mathlib.Core.Path.{_≡_}
-use Prim.Native.Nat.{ℕ, _+_, _-_, _^_, _≤_, _<_}
+use Prim.Native.Nat.{ℕ, _+_, _-_, _^_, _<_}
 use mathlib.Core.List.{List, map}
 use mathlib.Core.Bool.{Bool, false, not, cond, _&&_}
-use lib.ListN.{length, getD}
+use lib.ListN.{getD}
 use lib.Dec.{ltb, eqb}
 use Rattle.le.specs.Rows.{Holds, rowAt, entry, span}
 use Rattle.le.specs.declared.Row.{Row}
@@ -40,9 +40,12 @@ mapOf z = rowAt 0 (z .width)
 abbrev pub placesOf : ℕ → (ℕ → Bool) → ℕ → List ℕ
 placesOf width goes n = map (λ id. cond (goes id) (256 ^ width - 1) (newId goes id)) (range 0 n)
 
--- the room marks the nodes of a graph of these sizes that go, and the map has the new ids of the others
-pub record Mapped (z : Sizes) (room table : List ℕ) : Type 0 where
+-- by the map a node goes: its place is the highest number
+unfoldable pub goneIn : Sizes → List ℕ → ℕ → Bool
+goneIn z table id = ltb id (z .nodes) && eqb (entry table (mapOf z) id) (256 ^ z .width - 1)
+
+-- the map of the nodes of a graph of these sizes, which has the new ids of those that stay
+pub record Mapped (z : Sizes) (table : List ℕ) : Type 0 where
   pub low : Low z
-  pub marks : z .nodes ≤ length room
   pub held : Holds table (mapOf z) (z .nodes)
-  pub new : (i : ℕ) → i < z .nodes → marked room (z .nodes) i ≡ false → entry table (mapOf z) i ≡ newId (marked room (z .nodes)) i
+  pub new : (i : ℕ) → i < z .nodes → goneIn z table i ≡ false → entry table (mapOf z) i ≡ newId (goneIn z table) i

@@ -13,10 +13,10 @@ ghost use Rattle.graph.specs.Form.{edgeRow, labelRow, body};
 ghost use Rattle.graph.specs.Versions.{fitting};
 ghost use Rattle.graph.specs.Delete.{remaining, newId, renamed, renamedEdge, renamedPairs, withoutNodes};
 ghost use Rattle.graph.specs.Calls.{deleteEdgesCall, deleteNodesCall};
-ghost use Rattle.form.specs.Form.{sizesOf, bodyOf, Gives, GivesMap};
+ghost use Rattle.form.specs.Form.{sizesOf, Low, labelsOf, bodyOf, Gives, GivesMap};
 ghost use Rattle.form.specs.Stored.{graphOf, Stored};
 ghost use Rattle.write.specs.Write.{Put, Room, drawn};
-ghost use Rattle.delete.specs.Marks.{marked, unmarkedEdges, edgeOf, placesOf, Mapped};
+ghost use Rattle.delete.specs.Marks.{marked, unmarkedEdges, edgeOf, placesOf, goneIn, Mapped};
 use form::EdgeAt;
 use form::Outcome;
 use form::Reading;
@@ -78,25 +78,46 @@ fn ports_of_left(src: &[u8], z: Sizes, room: &[u8]) -> usize
     ports
 }
 
-// Of n labels from number k on, those of unmarked ids, in order. Answers where the next one goes.
-fn put_left_labels(
+// The label at number k, if the id that it is of stays. Answers where the next one goes.
+fn put_left_label(
     src: &[u8],
     from: Row,
+    k: usize,
+    room: &[u8],
+    id: usize,
+    out: &mut [u8],
+    to: Row,
+    j: usize,
+) -> usize
+    requires { ⌜ ((n : ℕ) × (id < n) × (id < length (now room)) × Holds (now src) from (k + 1) × Holds (now out) to (j + length (cond (marked (now room) n id) [] (entry (now src) from k ∷ [])))) ⌝ }
+    ensures { λ r. ⌜ ((n : ℕ) → id < n → Put (now (out .entry)) to j (cond (marked (now (room .entry)) n id) [] (entry (now (src .entry)) from k ∷ [])) (now (out .exit)) r) ⌝ }
+{
+    if room[id] != 0 {
+        return j;
+    }
+    le::put_number(out, to, j, le::number(src, from, k));
+    j + 1
+}
+
+// Of n labels from number k on, those of unmarked ids, in order. Answers where the next one goes. The rows are made here, so that their width is known.
+fn put_left_labels(
+    src: &[u8],
+    z: Sizes,
     k: usize,
     n: usize,
     room: &[u8],
     out: &mut [u8],
-    to: Row,
+    y: Sizes,
     first: usize,
 ) -> usize
-    requires { ⌜ Holds (now src) from (k + n) × (n ≤ length (now room)) × Holds (now out) to (first + length (remaining (marked (now room) n) 0 (span (now src) from k n))) ⌝ }
-    ensures { λ r. ⌜ Put (now (out .entry)) to first (remaining (marked (now (room .entry)) n) 0 (span (now (src .entry)) from k n)) (now (out .exit)) r ⌝ }
+    requires { ⌜ Low z × Low y × (n ≤ length (now room)) × Holds (now src) (labelsOf z) (k + n) × Holds (now out) (labelsOf y) (first + length (remaining (marked (now room) n) 0 (span (now src) (labelsOf z) k n))) ⌝ }
+    ensures { λ r. ⌜ Put (now (out .entry)) (labelsOf y) first (remaining (marked (now (room .entry)) n) 0 (span (now (src .entry)) (labelsOf z) k n)) (now (out .exit)) r ⌝ }
 {
+    let from = form::label_row(z);
+    let to = form::label_row(y);
     let mut j = first;
     for i in 0..n {
-        let one = if_stays(room, i, 1);
-        le::copy_numbers(out, to, j, src, from, k + i, one);
-        j = j + one;
+        j = put_left_label(src, from, k + i, room, i, out, to, j);
     }
     j
 }
@@ -144,16 +165,7 @@ fn put_without_edges(src: &[u8], z: Sizes, y: Sizes, room: &[u8], out: &mut [u8]
     let labels = form::label_row(z);
     let new_labels = form::label_row(y);
     le::copy_numbers(out, new_labels, 0, src, labels, 0, z.nodes);
-    put_left_labels(
-        src,
-        labels,
-        z.nodes,
-        z.edges,
-        room,
-        out,
-        new_labels,
-        z.nodes,
-    );
+    put_left_labels(src, z, z.nodes, z.edges, room, out, y, z.nodes);
     let new_body = form::body_row(y);
     let lists = put_left_edges(src, z, room, out, new_body);
     let n = z.sources + (z.targets + 2 * z.pairs);
@@ -293,27 +305,20 @@ fn put_map(room: &[u8], n: usize, map: &mut [u8], r: Row)
     }
 }
 
-// A node's new id, written if it stays. Answers where the next one goes.
-fn put_moved(
-    id: usize,
-    z: Sizes,
-    room: &[u8],
-    map: &[u8],
-    out: &mut [u8],
-    to: Row,
-    j: usize,
-) -> usize
-    requires { ⌜ Mapped z (now room) (now map) × (id < z .nodes) × Holds (now out) to (j + length (renamed (marked (now room) (z .nodes)) (id ∷ []))) ⌝ }
-    ensures { λ r. ⌜ Put (now (out .entry)) to j (renamed (marked (now (room .entry)) (z .nodes)) (id ∷ [])) (now (out .exit)) r ⌝ }
+// A node's new id, put if the map has one. Answers where the next one goes.
+fn put_moved(id: usize, z: Sizes, map: &[u8], out: &mut [u8], to: Row, j: usize) -> usize
+    requires { ⌜ Mapped z (now map) × (id < z .nodes) × Holds (now out) to (j + length (renamed (goneIn z (now map)) (id ∷ []))) ⌝ }
+    ensures { λ r. ⌜ Put (now (out .entry)) to j (renamed (goneIn z (now (map .entry))) (id ∷ [])) (now (out .exit)) r ⌝ }
 {
-    if room[id] != 0 {
-        return j;
-    }
     let r = Row {
         at: 0,
         width: z.width,
     };
-    le::put_number(out, to, j, le::number(map, r, id));
+    let place = le::number(map, r, id);
+    if place == form::highest(z.width) {
+        return j;
+    }
+    le::put_number(out, to, j, place);
     j + 1
 }
 
@@ -323,59 +328,56 @@ fn put_moved_ids(
     z: Sizes,
     k: usize,
     n: usize,
-    room: &[u8],
     map: &[u8],
     out: &mut [u8],
     to: Row,
     first: usize,
 ) -> usize
-    requires { ⌜ Mapped z (now room) (now map) × Holds (now src) (bodyOf z) (k + n) × Below (z .nodes) (span (now src) (bodyOf z) k n) × Holds (now out) to (first + length (renamed (marked (now room) (z .nodes)) (span (now src) (bodyOf z) k n))) ⌝ }
-    ensures { λ r. ⌜ Put (now (out .entry)) to first (renamed (marked (now (room .entry)) (z .nodes)) (span (now (src .entry)) (bodyOf z) k n)) (now (out .exit)) r ⌝ }
+    requires { ⌜ Mapped z (now map) × Holds (now src) (bodyOf z) (k + n) × Below (z .nodes) (span (now src) (bodyOf z) k n) × Holds (now out) to (first + length (renamed (goneIn z (now map)) (span (now src) (bodyOf z) k n))) ⌝ }
+    ensures { λ r. ⌜ Put (now (out .entry)) to first (renamed (goneIn z (now (map .entry))) (span (now (src .entry)) (bodyOf z) k n)) (now (out .exit)) r ⌝ }
 {
     let body = form::body_row(z);
     let mut j = first;
     for i in 0..n {
         let id = le::number(src, body, k + i);
-        j = put_moved(id, z, room, map, out, to, j);
+        j = put_moved(id, z, map, out, to, j);
     }
     j
 }
 
-// An edge with its new ids. Its counts are written last, since the lists tell them.
+// An edge with its new ids. Its counts are written last, since the lists tell them. Both lists are one loop, and it is called from one place:
+// so it is compiled into its caller.
 fn put_moved_edge(
     src: &[u8],
     z: Sizes,
     e: EdgeAt,
-    room: &[u8],
     map: &[u8],
     out: &mut [u8],
     to: Row,
     j: usize,
 ) -> usize
-    requires { ⌜ Mapped z (now room) (now map) × Holds (now src) (bodyOf z) (e .first + e .sources + e .targets) × (e .sources + e .targets < 2 ^ 32) ⌝ }
-    requires { ⌜ Below (z .nodes) (edgeOf (now src) z e .sources) × Below (z .nodes) (edgeOf (now src) z e .targets) × Holds (now out) to (j + length (edgeRow (renamedEdge (marked (now room) (z .nodes)) (edgeOf (now src) z e)))) ⌝ }
-    ensures { λ r. ⌜ Put (now (out .entry)) to j (edgeRow (renamedEdge (marked (now (room .entry)) (z .nodes)) (edgeOf (now (src .entry)) z e))) (now (out .exit)) r ⌝ }
+    requires { ⌜ Mapped z (now map) × Holds (now src) (bodyOf z) (e .first + (e .sources + e .targets)) × Below (z .nodes) (span (now src) (bodyOf z) (e .first) (e .sources + e .targets)) ⌝ }
+    requires { ⌜ (e .sources + e .targets < 2 ^ 32) × Holds (now out) to (j + length (edgeRow (renamedEdge (goneIn z (now map)) (edgeOf (now src) z e)))) ⌝ }
+    ensures { λ r. ⌜ Put (now (out .entry)) to j (edgeRow (renamedEdge (goneIn z (now (map .entry))) (edgeOf (now (src .entry)) z e))) (now (out .exit)) r ⌝ }
 {
-    let middle = put_moved_ids(src, z, e.first, e.sources, room, map, out, to, j + 2);
-    let end = put_moved_ids(
-        src,
-        z,
-        e.first + e.sources,
-        e.targets,
-        room,
-        map,
-        out,
-        to,
-        middle,
-    );
+    let body = form::body_row(z);
+    let mut middle = j + 2;
+    let mut end = j + 2;
+    for i in 0..e.sources + e.targets {
+        let id = le::number(src, body, e.first + i);
+        end = put_moved(id, z, map, out, to, end);
+        if i < e.sources {
+            middle = end;
+        }
+    }
     write::put_two(out, to, j, middle - (j + 2), end - middle);
     end
 }
 
 // The edges with their new ids.
-fn put_moved_edges(src: &[u8], z: Sizes, room: &[u8], map: &[u8], out: &mut [u8], to: Row) -> usize
-    requires { ⌜ Stored (now src) z × Mapped z (now room) (now map) × Holds (now out) to (length (joined edgeRow (each (renamedEdge (marked (now room) (z .nodes))) (graphOf (now src) .edges)))) ⌝ }
-    ensures { λ r. ⌜ Put (now (out .entry)) to 0 (joined edgeRow (each (renamedEdge (marked (now (room .entry)) (z .nodes))) (graphOf (now (src .entry)) .edges))) (now (out .exit)) r ⌝ }
+fn put_moved_edges(src: &[u8], z: Sizes, map: &[u8], out: &mut [u8], to: Row) -> usize
+    requires { ⌜ Stored (now src) z × Mapped z (now map) × Holds (now out) to (length (joined edgeRow (each (renamedEdge (goneIn z (now map))) (graphOf (now src) .edges)))) ⌝ }
+    ensures { λ r. ⌜ Put (now (out .entry)) to 0 (joined edgeRow (each (renamedEdge (goneIn z (now (map .entry)))) (graphOf (now (src .entry)) .edges))) (now (out .exit)) r ⌝ }
 {
     let body = form::body_row(z);
     let mut k: usize = 0;
@@ -383,10 +385,41 @@ fn put_moved_edges(src: &[u8], z: Sizes, room: &[u8], map: &[u8], out: &mut [u8]
     for i in 0..z.edges {
         let e = form::edge_at(src, body, k);
         let next = e.end;
-        j = put_moved_edge(src, z, e, room, map, out, to, j);
+        j = put_moved_edge(src, z, e, map, out, to, j);
         k = next;
     }
     j
+}
+
+// The pair at number k with its new ids, if both ends stay. Answers where the next one goes.
+fn put_moved_pair(
+    src: &[u8],
+    z: Sizes,
+    k: usize,
+    map: &[u8],
+    out: &mut [u8],
+    to: Row,
+    j: usize,
+) -> usize
+    requires { ⌜ Mapped z (now map) × Holds (now src) (bodyOf z) (k + 2) × Below (z .nodes) (span (now src) (bodyOf z) k 2) × Holds (now out) to (j + length (flat (renamedPairs (goneIn z (now map)) (paired (span (now src) (bodyOf z) k 2))))) ⌝ }
+    ensures { λ r. ⌜ Put (now (out .entry)) to j (flat (renamedPairs (goneIn z (now (map .entry))) (paired (span (now (src .entry)) (bodyOf z) k 2)))) (now (out .exit)) r ⌝ }
+{
+    let body = form::body_row(z);
+    let r = Row {
+        at: 0,
+        width: z.width,
+    };
+    let a = le::number(map, r, le::number(src, body, k));
+    let b = le::number(map, r, le::number(src, body, k + 1));
+    let none = form::highest(z.width);
+    if a == none {
+        return j;
+    }
+    if b == none {
+        return j;
+    }
+    write::put_two(out, to, j, a, b);
+    j + 2
 }
 
 // The n pairs from number k on, with their new ids, of those of which both ends stay.
@@ -395,52 +428,38 @@ fn put_moved_pairs(
     z: Sizes,
     k: usize,
     n: usize,
-    room: &[u8],
     map: &[u8],
     out: &mut [u8],
     to: Row,
     first: usize,
 ) -> usize
-    requires { ⌜ Mapped z (now room) (now map) × Holds (now src) (bodyOf z) (k + 2 * n) × Below (z .nodes) (span (now src) (bodyOf z) k (2 * n)) × Holds (now out) to (first + length (flat (renamedPairs (marked (now room) (z .nodes)) (paired (span (now src) (bodyOf z) k (2 * n)))))) ⌝ }
-    ensures { λ r. ⌜ Put (now (out .entry)) to first (flat (renamedPairs (marked (now (room .entry)) (z .nodes)) (paired (span (now (src .entry)) (bodyOf z) k (2 * n))))) (now (out .exit)) r ⌝ }
+    requires { ⌜ Mapped z (now map) × Holds (now src) (bodyOf z) (k + 2 * n) × Below (z .nodes) (span (now src) (bodyOf z) k (2 * n)) × Holds (now out) to (first + length (flat (renamedPairs (goneIn z (now map)) (paired (span (now src) (bodyOf z) k (2 * n)))))) ⌝ }
+    ensures { λ r. ⌜ Put (now (out .entry)) to first (flat (renamedPairs (goneIn z (now (map .entry))) (paired (span (now (src .entry)) (bodyOf z) k (2 * n))))) (now (out .exit)) r ⌝ }
 {
-    let body = form::body_row(z);
     let mut j = first;
     for i in 0..n {
-        let at = k + 2 * i;
-        let stay = pair_left(src, body, at, room);
-        j = put_moved_ids(src, z, at, 2 * stay, room, map, out, to, j);
+        j = put_moved_pair(src, z, k + 2 * i, map, out, to, j);
     }
     j
 }
 
 // The graph of sizes z without its marked nodes, which has sizes y, written by the map of the marks.
 fn put_without_nodes(src: &[u8], z: Sizes, y: Sizes, room: &[u8], map: &[u8], out: &mut [u8])
-    requires { ⌜ Stored (now src) z × Mapped z (now room) (now map) × Room (now out) y ⌝ }
-    requires { ⌜ y ≡ sizesOf (fitting (withoutNodes (marked (now room) (z .nodes)) (graphOf (now src)))) (withoutNodes (marked (now room) (z .nodes)) (graphOf (now src))) ⌝ }
-    ensures { λ _. ⌜ now (out .exit) ≡ drawn (now (out .entry)) y (labelRow (withoutNodes (marked (now (room .entry)) (z .nodes)) (graphOf (now (src .entry))))) (body (withoutNodes (marked (now (room .entry)) (z .nodes)) (graphOf (now (src .entry))))) ⌝ }
+    requires { ⌜ Stored (now src) z × Mapped z (now map) × Room (now out) y × (z .nodes ≤ length (now room)) × (marked (now room) (z .nodes) ≡ goneIn z (now map)) ⌝ }
+    requires { ⌜ y ≡ sizesOf (fitting (withoutNodes (goneIn z (now map)) (graphOf (now src)))) (withoutNodes (goneIn z (now map)) (graphOf (now src))) ⌝ }
+    ensures { λ _. ⌜ now (out .exit) ≡ drawn (now (out .entry)) y (labelRow (withoutNodes (goneIn z (now (map .entry))) (graphOf (now (src .entry))))) (body (withoutNodes (goneIn z (now (map .entry))) (graphOf (now (src .entry))))) ⌝ }
 {
     write::put_header(out, y);
+    let nodes = put_left_labels(src, z, 0, z.nodes, room, out, y, 0);
     let labels = form::label_row(z);
     let new_labels = form::label_row(y);
-    let nodes = put_left_labels(src, labels, 0, z.nodes, room, out, new_labels, 0);
     le::copy_numbers(out, new_labels, nodes, src, labels, z.nodes, z.edges);
     let new_body = form::body_row(y);
     let lists = 2 * z.edges + z.ports;
     let ids = z.sources + z.targets;
-    let sources = put_moved_edges(src, z, room, map, out, new_body);
-    let pairs = put_moved_ids(src, z, lists, ids, room, map, out, new_body, sources);
-    put_moved_pairs(
-        src,
-        z,
-        lists + ids,
-        z.pairs,
-        room,
-        map,
-        out,
-        new_body,
-        pairs,
-    );
+    let sources = put_moved_edges(src, z, map, out, new_body);
+    let pairs = put_moved_ids(src, z, lists, ids, map, out, new_body, sources);
+    put_moved_pairs(src, z, lists + ids, z.pairs, map, out, new_body, pairs);
 }
 
 // The graph without the listed nodes, and the map that says where each old node went: its new id, or the highest number of the width.

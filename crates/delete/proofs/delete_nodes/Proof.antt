@@ -1,12 +1,12 @@
 -- `delete::delete_nodes` meets its contract.
 -- Assumes nothing.
-use mathlib.Core.List.{List}
+use mathlib.Core.Bool.{Bool}
 use mathlib.Core.Path.{_≡_, refl, sym, ap, _∙_, subst}
 use Prim.Native.Nat.{ℕ, _^_, _≤_, _<_}
 use native.Mathlib.Nat.{mul-le-mul-left}
 use lib.ListN.{length}
 use denote.Ref.{now}
-use Rattle.delete.specs.Marks.{marked, mapOf, Mapped}
+use Rattle.delete.specs.Marks.{marked, mapOf, goneIn, Mapped}
 use Rattle.form.specs.Form.{meantBy, countsOf, refusalIn, refusalRead, sizesOf, GivesMap}
 use Rattle.form.specs.Stored.{graphOf, formatOf, Stored}
 use Rattle.form.specs.declared.Outcome.the-variants.{Done}
@@ -18,16 +18,16 @@ use Rattle.graph.specs.Delete.{withoutNodes, deleteNodes}
 use Rattle.graph.specs.Form.{labelRow, body}
 use Rattle.graph.specs.Graph.{Graph}
 use Rattle.graph.specs.Versions.{fitting}
-use Rattle.le.specs.Rows.{Holds, entry, span}
+use Rattle.le.specs.Rows.{Holds, span}
 use Rattle.write.specs.Write.{fitted, drawn}
 use Rattle.form.proofs.Answers.{list-refused, number-refused, number-answered, gives-map-done}
 use Rattle.form.proofs.Stored.{unread, stored, stored-rows}
 use Rattle.le.proofs.Numbers.{below-each}
-use Rattle.le.proofs.Rows.{holds-same, length-puts}
 use Rattle.write.proofs.Calls.{work-short, work-enough}
 use Rattle.write.proofs.Results.{Fits, result-refused, result-fits, fits-room, drawn-whole}
 use Rattle.delete.proofs.Calls.{room-enough, passes-map, Listed, listed, nodes-deleted, nodes-unread, nodes-unlisted, nodes-refused, nodes-no-map, nodes-done, map-put}
-use Rattle.delete.proofs.Parts.{map-there}
+use Rattle.delete.proofs.Marks.{outside}
+use Rattle.delete.proofs.Parts.{map-made}
 use borrow.Author.Needs.{needs}
 use native.Mathlib.Omega.{arith}
 use Rattle.delete.proofs.delete_nodes.Statement.{statement}
@@ -72,7 +72,7 @@ marks : (c : tie.After-mark) → c .before .before .before .before .before .befo
 marks c = let h = roomy (c .before .before .before .before .before .before) in omega arith
 
 deleted : (c : tie.After-mark) → withoutNodes (marked (c .mark .last .0) (c .before .before .before .before .before .before .before .graph .given .0 .0 .nodes)) (graphOf (now (c .before .before .before .before .before .before .before .before .before .before .before .before .before .before .before .before .before .before .args .src))) ≡ left (c .before .before) .graph
-deleted c = nodes-deleted (c .mark .last .0) (c .before .before .before .before .before .before .before .graph .given .0 .0 .nodes) _ (graphOf (now (c .before .before .before .before .before .before .before .before .before .before .before .before .before .before .before .before .before .before .args .src))) (c .mark .ensures)
+deleted c = nodes-deleted _ (graphOf (now (c .before .before .before .before .before .before .before .before .before .before .before .before .before .before .before .before .before .before .args .src))) (c .mark .ensures)
 
 sizes : (c : tie.After-without-nodes) → c .without-nodes .result ≡ sizesOf (fitting (left (c .before .before .before .before .before .before) .graph)) (left (c .before .before .before .before .before .before) .graph)
 sizes c = c .without-nodes .ensures ∙ ap (λ (h : Graph). sizesOf (fitting h) h) (deleted (c .before .before .before .before))
@@ -152,23 +152,22 @@ returns-5 c =
 put-map-requires : tie.Need-put-map-requires
 put-map-requires c κs = (marks (c .before .before .before .before .before .before .before .before .before .before .before .before .before .before), stored-rows (form (c .before .before .before .before .before .before .before .before .before .before .before .before .before .before .before .before .before .before .before .before)) .low .nodes, map-held (c .before .before))
 
+-- the map that was made says which nodes go
+made : (c : tie.After-put-map) → Mapped (c .before .before .before .before .before .before .before .before .before .before .before .before .before .before .before .before .before .before .before .before .before .before .graph .given .0 .0) (c .put-map .last .1 .1 .0) × (marked (c .before .before .before .before .before .before .before .before .before .before .before .before .before .before .before .mark .last .0) (c .before .before .before .before .before .before .before .before .before .before .before .before .before .before .before .before .before .before .before .before .before .before .graph .given .0 .0 .nodes) ≡ goneIn (c .before .before .before .before .before .before .before .before .before .before .before .before .before .before .before .before .before .before .before .before .before .before .graph .given .0 .0) (c .put-map .last .1 .1 .0))
+made c =
+    let f = form (c .before .before .before .before .before .before .before .before .before .before .before .before .before .before .before .before .before .before .before .before .before) in
+    let z = c .before .before .before .before .before .before .before .before .before .before .before .before .before .before .before .before .before .before .before .before .before .before .graph .given .0 .0 in
+    let room = c .before .before .before .before .before .before .before .before .before .before .before .before .before .before .before .mark .last .0 in
+    let small = subst (λ (y : Sizes). y .nodes < 256 ^ y .width) (sym (f .sizes)) (omega (arith, f .formed .counts .nodes, f .usable .nodes)) in
+    map-made z (marked room (z .nodes)) (now (c .before .before .before .before .before .before .before .before .before .before .before .before .before .before .before .before .before .before .before .before .before .before .before .before .before .before .before .before .before .before .before .before .before .args .map)) (map-held (c .before .before .before)) small (stored-rows f .low) (outside room (z .nodes)) (c .put-map .ensures)
+
 put-without-nodes-requires : tie.Need-put-without-nodes-requires
 put-without-nodes-requires c κs =
-    let s = c .before .before .before .before .before .before .before .before .before .before .before .before .before .before .before .before .before .before .before .before .before .before .before .before .before .before .before .before .before .before .before .before .before .before .before .before .before .before in
-    let f = form (c .before .before .before .before .before .before .before .before .before .before .before .before .before .before .before .before .before .before .before .before .before .before .before .before .before .before) in
-    let z = c .before .before .before .before .before .before .before .before .before .before .before .before .before .before .before .before .before .before .before .before .before .before .before .before .before .before .before .graph .given .0 .0 in
-    let low = stored-rows f .low in
-    let room = c .before .before .before .before .before .before .before .before .before .before .before .before .before .before .before .before .before .before .before .before .mark .last .0 in
-    let p = c .before .before .before .before .before .put-map .ensures in
-    let small = subst (λ (y : Sizes). y .nodes < 256 ^ y .width) (sym (f .sizes)) (omega (arith, f .formed .counts .nodes, f .usable .nodes)) in
-    let mapped : Mapped z room (c .before .before .before .before .before .put-map .last .1 .1 .0) =
-    record {
-      low = low;
-      marks = marks (c .before .before .before .before .before .before .before .before .before .before .before .before .before .before .before .before .before .before .before .before);
-      held = holds-same (map-held (c .before .before .before .before .before .before .before .before)) _ (ap length p ∙ length-puts (now (s .args .map)) (mapOf z) 0 _);
-      new = λ i l u. ap (λ (b : List ℕ). entry b (mapOf z) i) p ∙ map-there z (marked room (z .nodes)) (now (s .args .map)) (map-held (c .before .before .before .before .before .before .before .before)) small i l u;
-    } in
-    ((f, mapped, fits-room (fits (c .before .before .before .before .before .before .before .before .before .before .before .before)) (now (s .args .out)) refl), c .before .before .before .before .before .before .before .before .before .before .before .before .before .before .before .before .without-nodes .ensures)
+    let m = made (c .before .before .before .before .before) in
+    let g = graphOf (now (c .before .before .before .before .before .before .before .before .before .before .before .before .before .before .before .before .before .before .before .before .before .before .before .before .before .before .before .before .before .before .before .before .before .before .before .before .before .before .args .src)) in (
+      (form (c .before .before .before .before .before .before .before .before .before .before .before .before .before .before .before .before .before .before .before .before .before .before .before .before .before .before), m .0, fits-room (fits (c .before .before .before .before .before .before .before .before .before .before .before .before)) (now (c .before .before .before .before .before .before .before .before .before .before .before .before .before .before .before .before .before .before .before .before .before .before .before .before .before .before .before .before .before .before .before .before .before .before .before .before .before .before .args .out)) refl, marks (c .before .before .before .before .before .before .before .before .before .before .before .before .before .before .before .before .before .before .before .before), m .1),
+      c .before .before .before .before .before .before .before .before .before .before .before .before .before .before .before .before .without-nodes .ensures ∙ ap (λ (goes : ℕ → Bool). sizesOf (fitting (withoutNodes goes g)) (withoutNodes goes g)) (m .1),
+    )
 
 returns-6 : tie.Need-returns-6
 returns-6 c =
@@ -179,7 +178,7 @@ returns-6 c =
     let g = left (c .before .before .before .before .before .before .before .before .before .before .before .before .before .before .before .before .before .before .before .before .before .before .before .before .before) .graph in
     let y = c .before .before .before .before .before .before .before .before .before .before .before .before .before .before .before .before .before .before .before .without-nodes .result in
     let r = c .before .before .before .before .before .before .before .before .before .before .before .before .before .work-room2 in
-    let new = c .before .before .put-without-nodes .ensures ∙ ap (λ (h : Graph). drawn (now (s .args .out)) y (labelRow h) (body h)) (deleted (c .before .before .before .before .before .before .before .before .before .before .before .before .before .before .before .before .before .before .before .before .before .before .before))
+    let new = c .before .before .put-without-nodes .ensures ∙ ap (λ (h : Graph). drawn (now (s .args .out)) y (labelRow h) (body h)) (nodes-deleted _ (graphOf (now (s .args .src))) (sym (made (c .before .before .before .before .before .before .before .before) .1) ∙ c .before .before .before .before .before .before .before .before .before .before .before .before .before .before .before .before .before .before .before .before .before .before .before .mark .ensures))
     ∙ drawn-whole (now (s .args .out)) g y (sizes (c .before .before .before .before .before .before .before .before .before .before .before .before .before .before .before .before .before .before .before)) (subst (λ (n : ℕ). n ≤ length (now (s .args .out))) (k .long) (k .enough)) in
     let table = c .before .before .before .before .before .before .before .before .put-map .ensures
     ∙ map-put (now (s .args .src)) (now (s .args .ids)) (length (now (s .args .out))) (length (now (s .args .map))) f _ (l .is) (c .before .before .before .before .before .before .before .before .before .before .before .before .before .before .before .before .before .before .before .before .before .before .before .mark .last .0) (now (s .args .map)) (c .before .before .before .before .before .before .before .before .before .before .before .before .before .before .before .before .before .before .before .before .before .before .before .mark .ensures)

@@ -12,6 +12,7 @@ use Rattle.le.specs.Le.{Below}
 use Rattle.le.specs.Rows.{span}
 use Rattle.le.proofs.Rows.{holds-less, holds-index}
 use Rattle.delete.proofs.Grows.{entry-below, one-stays, count-more, ids-grow}
+use borrow.Author.Needs.{needs}
 use native.Mathlib.Omega.{arith}
 use Rattle.delete.proofs.ids_left.Statement.{statement}
 use Rattle.delete.proofs.ids_left.Tie as tie
@@ -37,15 +38,6 @@ if-stays-requires : tie.Need-if-stays-requires Inv-loop μ-loop
 if-stays-requires c κs =
     let s = c .before .before .before .before .before in
     entry-below _ (now (s .args .src)) (s .args .r) (s .args .k) (s .args .n) (s .pre .1) (c .before .before .loop .i) (c .number .result) (omega arith) (c .number .ensures .0)
-
-add-stay : tie.Need-add-stay Inv-loop μ-loop
-add-stay c = omega arith
-
-add-i : tie.Need-add-i Inv-loop μ-loop
-add-i c = omega arith
-
-loop-less : tie.Need-loop-less Inv-loop μ-loop
-loop-less c = omega arith
 
 loop-again : tie.Need-loop-again Inv-loop μ-loop
 loop-again c =
@@ -79,8 +71,8 @@ ids-left-spec =
     add-number
     number-requires
     if-stays-requires
-    add-stay
-    add-i
-    loop-less
+    (λ c. search needs)
+    (λ c. search needs)
+    (λ c. search needs)
     loop-again
     returns)

@@ -7,6 +7,7 @@ use denote.Ref.{now}
 use Rattle.delete.specs.Marks.{marked}
 use Rattle.graph.specs.Delete.{newId}
 use Rattle.delete.proofs.Grows.{new-id-more}
+use borrow.Author.Needs.{needs}
 use native.Mathlib.Omega.{arith}
 use Rattle.delete.proofs.left.Statement.{statement}
 use Rattle.delete.proofs.left.Tie as tie
@@ -19,18 +20,6 @@ abbrev μ-loop : tie.MeasureT-loop
 
 loop-holds : tie.Need-loop-holds Inv-loop μ-loop
 loop-holds c = (omega arith, omega arith, refl)
-
-if-stays-requires : tie.Need-if-stays-requires Inv-loop μ-loop
-if-stays-requires c κs = omega arith
-
-add-stay : tie.Need-add-stay Inv-loop μ-loop
-add-stay c = omega arith
-
-add-i : tie.Need-add-i Inv-loop μ-loop
-add-i c = omega arith
-
-loop-less : tie.Need-loop-less Inv-loop μ-loop
-loop-less c = omega arith
 
 loop-again : tie.Need-loop-again Inv-loop μ-loop
 loop-again c =
@@ -52,9 +41,9 @@ left-spec =
     Inv-loop
     μ-loop
     loop-holds
-    if-stays-requires
-    add-stay
-    add-i
-    loop-less
+    (λ c κs. search needs)
+    (λ c. search needs)
+    (λ c. search needs)
+    (λ c. search needs)
     loop-again
     returns)

@@ -12,6 +12,7 @@ use Rattle.le.specs.Rows.{entry, span}
 use Rattle.le.proofs.Rows.{holds-less, span-next}
 use Rattle.delete.proofs.Grows.{entry-below}
 use Rattle.delete.proofs.Marks.{cleared, marked-more}
+use borrow.Author.Needs.{needs}
 use native.Mathlib.Omega.{arith}
 use Rattle.delete.proofs.mark.Statement.{statement}
 use Rattle.delete.proofs.mark.Tie as tie
@@ -21,9 +22,6 @@ Inv-loop room₀ count ids r n k₀ room k = (k ≤ n) × (length room ≡ lengt
 
 abbrev μ-loop : tie.MeasureT-loop
 μ-loop room₀ count ids r n k₀ room k = n - k
-
-clear-requires : tie.Need-clear-requires Inv-loop μ-loop
-clear-requires c κs = omega arith
 
 loop-holds : tie.Need-loop-holds Inv-loop μ-loop
 unfolding span
@@ -46,12 +44,6 @@ number-requires c κs = holds-less (c .before .before .before .before .before .b
 slice-write-room : tie.Need-slice-write-room Inv-loop μ-loop
 slice-write-room c = omega (arith, listed c)
 
-add-k : tie.Need-add-k Inv-loop μ-loop
-add-k c = omega arith
-
-loop-less : tie.Need-loop-less Inv-loop μ-loop
-loop-less c = omega arith
-
 loop-again : tie.Need-loop-again Inv-loop μ-loop
 loop-again c =
     let a = c .before .before .before .before .before .before .before .before .before .args in
@@ -62,9 +54,6 @@ loop-again c =
       marked-more (l .room) ids (a .count) (c .number .result) (listed c) (omega (arith, listed c)) (l .inv .2)
           ∙ ap among ((λ i. ids ++ (read c i ∷ [])) ∙ sym (span-next (now (a .ids)) (a .r) 0 (l .k))),
     )
-
-same-length : tie.Need-same-length Inv-loop μ-loop
-same-length c = omega arith
 
 returns : tie.Need-returns Inv-loop μ-loop
 returns c =
@@ -78,12 +67,12 @@ mark-spec =
     (tie.spec
     Inv-loop
     μ-loop
-    clear-requires
+    (λ c κs. search needs)
     loop-holds
     number-requires
     slice-write-room
-    add-k
-    loop-less
+    (λ c. search needs)
+    (λ c. search needs)
     loop-again
-    same-length
+    (λ c. search needs)
     returns)

@@ -12,6 +12,7 @@ use Rattle.le.specs.Le.{Below}
 use Rattle.le.specs.Rows.{span}
 use Rattle.le.proofs.Rows.{holds-less, holds-index}
 use Rattle.delete.proofs.Grows.{part-below, count-more, pairs-grow}
+use borrow.Author.Needs.{needs}
 use native.Mathlib.Omega.{arith}
 use Rattle.delete.proofs.pairs_left.Statement.{statement}
 use Rattle.delete.proofs.pairs_left.Tie as tie
@@ -38,15 +39,6 @@ pair-left-requires c κs =
     let s = c .before .before .before .before in
     let a = s .args in
     (holds-less (s .pre .0) _ (omega arith), part-below _ (now (a .src)) (a .r) (a .k) (2 * a .n) (s .pre .1) (2 * c .before .loop .i) 2 (omega arith))
-
-add-stay : tie.Need-add-stay Inv-loop μ-loop
-add-stay c = omega arith
-
-add-i : tie.Need-add-i Inv-loop μ-loop
-add-i c = omega arith
-
-loop-less : tie.Need-loop-less Inv-loop μ-loop
-loop-less c = omega arith
 
 loop-again : tie.Need-loop-again Inv-loop μ-loop
 loop-again c =
@@ -77,8 +69,8 @@ pairs-left-spec =
     mul-pair-left
     add-pair-left
     pair-left-requires
-    add-stay
-    add-i
-    loop-less
+    (λ c. search needs)
+    (λ c. search needs)
+    (λ c. search needs)
     loop-again
     returns)

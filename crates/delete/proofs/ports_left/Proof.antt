@@ -15,6 +15,7 @@ use Rattle.form.proofs.Stored.{stored-rows}
 use Rattle.le.proofs.Rows.{holds-index}
 use Rattle.delete.proofs.Edges.{edgeNo, Met, met, edge-held, ids-below, all-edges, edge-less}
 use Rattle.delete.proofs.Grows.{renamed-append, count-more, moved-grow}
+use borrow.Author.Needs.{needs}
 use native.Mathlib.Omega.{arith}
 use Rattle.delete.proofs.ports_left.Statement.{statement}
 use Rattle.delete.proofs.ports_left.Tie as tie
@@ -53,12 +54,6 @@ ids-left-requires c κs = (edge (c .before) .held, ids-below (edge (c .before)) 
 add-ports : tie.Need-add-ports Inv-loop μ-loop
 add-ports c = omega (arith, edge (c .before .before) .first, holds-index (edge (c .before .before) .held))
 
-add-i : tie.Need-add-i Inv-loop μ-loop
-add-i c = omega arith
-
-loop-less : tie.Need-loop-less Inv-loop μ-loop
-loop-less c = omega arith
-
 loop-again : tie.Need-loop-again Inv-loop μ-loop
 loop-again c =
     let s = c .before .before .before .before .before .before .before .before in
@@ -95,7 +90,7 @@ ports-left-spec =
     add-ids-left
     ids-left-requires
     add-ports
-    add-i
-    loop-less
+    (λ c. search needs)
+    (λ c. search needs)
     loop-again
     returns)

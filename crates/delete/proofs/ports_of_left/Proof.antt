@@ -14,6 +14,7 @@ use Rattle.graph.specs.Delete.{remaining}
 use Rattle.le.proofs.Rows.{holds-index}
 use Rattle.delete.proofs.Edges.{Met, met, edge-held, all-edges, edge-less}
 use Rattle.delete.proofs.Grows.{unless-long, count-more, edges-grow}
+use borrow.Author.Needs.{needs}
 use native.Mathlib.Omega.{arith}
 use Rattle.delete.proofs.ports_of_left.Statement.{statement}
 use Rattle.delete.proofs.ports_of_left.Tie as tie
@@ -45,17 +46,8 @@ edge c =
 add-if-stays : tie.Need-add-if-stays Inv-loop μ-loop
 add-if-stays c = omega (arith, edge (c .before) .low)
 
-if-stays-requires : tie.Need-if-stays-requires Inv-loop μ-loop
-if-stays-requires c κs = omega arith
-
 add-ports : tie.Need-add-ports Inv-loop μ-loop
 add-ports c = omega (arith, edge (c .before .before) .first, holds-index (edge (c .before .before) .held))
-
-add-i : tie.Need-add-i Inv-loop μ-loop
-add-i c = omega arith
-
-loop-less : tie.Need-loop-less Inv-loop μ-loop
-loop-less c = omega arith
 
 loop-again : tie.Need-loop-again Inv-loop μ-loop
 loop-again c =
@@ -86,9 +78,9 @@ ports-of-left-spec =
     loop-holds
     edge-at-requires
     add-if-stays
-    if-stays-requires
+    (λ c κs. search needs)
     add-ports
-    add-i
-    loop-less
+    (λ c. search needs)
+    (λ c. search needs)
     loop-again
     returns)

@@ -18,6 +18,7 @@ use Rattle.le.proofs.Rows.{holds-less, holds-index}
 use Rattle.write.proofs.Results.{put-none}
 use Rattle.delete.proofs.Edges.{Met, met, edge-held, all-edges, all-fits, edge-less}
 use Rattle.delete.proofs.Grows.{put-length, edges-grow, unless-long, put-unless, put-fits, put-more}
+use borrow.Author.Needs.{needs}
 use native.Mathlib.Omega.{arith}
 use Rattle.delete.proofs.put_left_edges.Statement.{statement}
 use Rattle.delete.proofs.put_left_edges.Tie as tie
@@ -49,9 +50,6 @@ edge c =
 sub-if-stays : tie.Need-sub-if-stays Inv-loop μ-loop
 sub-if-stays c = omega (arith, edge (c .before) .past)
 
-if-stays-requires : tie.Need-if-stays-requires Inv-loop μ-loop
-if-stays-requires c κs = omega arith
-
 -- room for the edge, if it stays
 fits : (c : tie.After-copy-numbers-arg Inv-loop μ-loop) → Holds (c .before .before .before .before .before .loop .out) (c .before .before .before .before .before .before .before .before .before .before .args .to) (c .before .before .before .before .before .loop .j + c .before .if-stays .result)
 fits c =
@@ -68,12 +66,6 @@ copy-numbers-requires c κs = (fits c, holds-less (edge (c .before .before .befo
 
 add-j : tie.Need-add-j Inv-loop μ-loop
 add-j c = omega (arith, holds-index (fits (c .before .before .before)), put-length (c .before .before .before .before .before .before .before .before .loop .inv .2))
-
-add-i : tie.Need-add-i Inv-loop μ-loop
-add-i c = omega arith
-
-loop-less : tie.Need-loop-less Inv-loop μ-loop
-loop-less c = omega arith
 
 loop-again : tie.Need-loop-again Inv-loop μ-loop
 loop-again c =
@@ -107,11 +99,11 @@ put-left-edges-spec =
     loop-holds
     edge-at-requires
     sub-if-stays
-    if-stays-requires
+    (λ c κs. search needs)
     copy-numbers-requires
     add-j
-    add-i
-    loop-less
+    (λ c. search needs)
+    (λ c. search needs)
     loop-again
     same-length
     returns)

@@ -14,6 +14,7 @@ use Rattle.graph.proofs.Kept.{new-id-le}
 use Rattle.le.proofs.Rows.{holds-less, holds-same}
 use Rattle.write.proofs.Results.{put-none}
 use Rattle.delete.proofs.Grows.{new-id-more, put-length, put-more, places-grow}
+use borrow.Author.Needs.{needs}
 use native.Mathlib.Omega.{arith}
 use Rattle.delete.proofs.put_map.Statement.{statement}
 use Rattle.delete.proofs.put_map.Tie as tie
@@ -36,12 +37,6 @@ put-place-requires c κs =
       holds-same (holds-less (s .pre .2) (l .i + 1) (omega arith)) (l .map) (put-length (l .inv .2)),
       omega (arith, l .inv .1, new-id-le (marked (now (s .args .room)) (s .args .n)) (l .i)),
     )
-
-add-i : tie.Need-add-i Inv-loop μ-loop
-add-i c = omega arith
-
-loop-less : tie.Need-loop-less Inv-loop μ-loop
-loop-less c = omega arith
 
 loop-again : tie.Need-loop-again Inv-loop μ-loop
 loop-again c =
@@ -75,8 +70,8 @@ put-map-spec =
     μ-loop
     loop-holds
     put-place-requires
-    add-i
-    loop-less
+    (λ c. search needs)
+    (λ c. search needs)
     loop-again
     same-length
     returns)

@@ -32,9 +32,6 @@ returns c =
 put-number-requires-2 : tie.Need-put-number-requires-2
 put-number-requires-2 c κs = (c .before .before .before .before .before .pre .1, c .before .before .before .before .before .pre .2)
 
-add-result : tie.Need-add-result
-add-result c = omega arith
-
 returns-2 : tie.Need-returns-2
 returns-2 c =
     let a = c .before .before .before .before .before .before .before .before .args in
@@ -54,6 +51,6 @@ put-place-spec =
     (λ c. search needs)
     returns
     put-number-requires-2
-    add-result
+    (λ c. search needs)
     (λ c. search needs)
     returns-2)

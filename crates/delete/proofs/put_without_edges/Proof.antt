@@ -10,11 +10,12 @@ use Rattle.delete.specs.Marks.{marked, unmarkedEdges}
 use Rattle.form.specs.Form.{labelsOf, bodyOf, listsFrom}
 use Rattle.form.specs.Stored.{graphOf}
 use Rattle.form.specs.declared.Sizes.{Sizes}
+use Rattle.graph.specs.Delete.{remaining}
 use Rattle.graph.specs.Form.{labelRow, body, edgeRow}
 use Rattle.graph.specs.Graph.{Edge, Graph}
 use Rattle.graph.specs.Lists.{joined, flat}
 use Rattle.graph.specs.Versions.{fitting}
-use Rattle.le.specs.Rows.{Holds}
+use Rattle.le.specs.Rows.{Holds, span}
 use Rattle.write.specs.Write.{headed, Put}
 use Rattle.form.proofs.Stored.{stored-rows}
 use Rattle.le.proofs.Rows.{holds-less, holds-same, length-span}
@@ -71,32 +72,33 @@ copy-numbers-requires c κs =
     )
 
 -- the labels of the nodes, and of all
-node-labels : (c : tie.After-copy-numbers) → Put (headed (now (c .before .before .before .before .before .before .before .before .before .before .before .args .out)) (c .before .before .before .before .before .before .before .before .before .before .before .args .y)) (c .before .before .label-row2 .result) 0 (graphOf (now (c .before .before .before .before .before .before .before .before .before .before .before .args .src)) .labels) (c .copy-numbers .last .0) (c .before .before .before .before .before .before .before .before .before .before .before .args .z .nodes)
+node-labels : (c : tie.After-copy-numbers) → Put (headed (now (c .before .before .before .before .before .before .before .before .before .before .before .args .out)) (c .before .before .before .before .before .before .before .before .before .before .before .args .y)) (labelsOf (c .before .before .before .before .before .before .before .before .before .before .before .args .y)) 0 (graphOf (now (c .before .before .before .before .before .before .before .before .before .before .before .args .src)) .labels) (c .copy-numbers .last .0) (c .before .before .before .before .before .before .before .before .before .before .before .args .z .nodes)
 node-labels c =
     let s = c .before .before .before .before .before .before .before .before .before .before .before in
-    subst (λ (o : List ℕ). Put o (c .before .before .label-row2 .result) 0 (graphOf (now (s .args .src)) .labels) (c .copy-numbers .last .0) (s .args .z .nodes)) (c .before .before .before .before .before .before .put-header .ensures)
-    (copied (now (s .args .src)) 0 (s .args .z .nodes) (c .copy-numbers .ensures) (c .before .before .before .label-row .ensures) (stored-rows (s .pre .0 .0) .labels) (sym (zero-add _)))
+    subst (λ (o : List ℕ). Put o (labelsOf (s .args .y)) 0 (graphOf (now (s .args .src)) .labels) (c .copy-numbers .last .0) (s .args .z .nodes)) (c .before .before .before .before .before .before .put-header .ensures)
+    (copied (now (s .args .src)) 0 (s .args .z .nodes) (c .copy-numbers .ensures) (c .before .before .label-row2 .ensures) (c .before .before .before .label-row .ensures) (stored-rows (s .pre .0 .0) .labels) (sym (zero-add _)))
+
+left : (s : tie.Start) → remaining (marked (now (s .args .room)) (s .args .z .edges)) 0 (span (now (s .args .src)) (labelsOf (s .args .z)) (s .args .z .nodes) (s .args .z .edges)) ≡ map (λ (e : Edge). e .label) (kept s .edges)
+unfolding kept
+left s = left-labels (s .pre .0 .0) (marked (now (s .args .room)) (s .args .z .edges))
 
 put-left-labels-requires : tie.Need-put-left-labels-requires
-unfolding kept
 put-left-labels-requires c κs =
     let s = c .before .before .before .before .before .before .before .before .before .before .before .before .before .before in
-    let rows = stored-rows (s .pre .0 .0) in
-    let left = left-labels (s .pre .0 .0) (marked (now (s .args .room)) (s .args .z .edges)) _ (c .before .before .before .before .before .before .label-row .ensures) in (
-      at-row (c .before .before .before .before .before .before .label-row .ensures) (rows .labels-held),
+    let rows = stored-rows (s .pre .0 .0) in (
+      rows .low,
+      s .pre .0 .2 .low,
       s .pre .0 .1,
-      at-row (c .before .before .before .before .before .label-row2 .ensures)
-          (holds-same (holds-less (labels-there s) _ (omega (arith, nodes s, ap length left))) _
-          (put-length (node-labels (c .before .before .before)) ∙ length-headed (now (s .args .out)) (s .args .y))),
+      rows .labels-held,
+      holds-same (holds-less (labels-there s) _ (omega (arith, nodes s, ap length (left s)))) _ (put-length (node-labels (c .before .before .before)) ∙ length-headed (now (s .args .out)) (s .args .y)),
     )
 
-all-labels : (c : tie.After-put-left-labels) → Put (headed (now (c .before .before .before .before .before .before .before .before .before .before .before .before .before .before .before .args .out)) (c .before .before .before .before .before .before .before .before .before .before .before .before .before .before .before .args .y)) (c .before .before .before .before .before .before .label-row2 .result) 0 (labelRow (kept (c .before .before .before .before .before .before .before .before .before .before .before .before .before .before .before))) (c .put-left-labels .last .1 .1 .1 .1 .1 .0) (c .put-left-labels .result)
+all-labels : (c : tie.After-put-left-labels) → Put (headed (now (c .before .before .before .before .before .before .before .before .before .before .before .before .before .before .before .args .out)) (c .before .before .before .before .before .before .before .before .before .before .before .before .before .before .before .args .y)) (labelsOf (c .before .before .before .before .before .before .before .before .before .before .before .before .before .before .before .args .y)) 0 (labelRow (kept (c .before .before .before .before .before .before .before .before .before .before .before .before .before .before .before))) (c .put-left-labels .last .1 .1 .1 .1 .1 .0) (c .put-left-labels .result)
 unfolding kept
 all-labels c =
     let s = c .before .before .before .before .before .before .before .before .before .before .before .before .before .before .before in
     put-then (node-labels (c .before .before .before .before))
-    (subst (λ (l : List ℕ). Put (c .before .before .before .before .copy-numbers .last .0) (c .before .before .before .before .before .before .label-row2 .result) (s .args .z .nodes) l (c .put-left-labels .last .1 .1 .1 .1 .1 .0) (c .put-left-labels .result))
-    (left-labels (s .pre .0 .0) (marked (now (s .args .room)) (s .args .z .edges)) _ (c .before .before .before .before .before .before .before .label-row .ensures)) (c .put-left-labels .ensures))
+    (subst (λ (l : List ℕ). Put (c .before .before .before .before .copy-numbers .last .0) (labelsOf (s .args .y)) (s .args .z .nodes) l (c .put-left-labels .last .1 .1 .1 .1 .1 .0) (c .put-left-labels .result)) (left s) (c .put-left-labels .ensures))
 
 body-row-requires : tie.Need-body-row-requires
 body-row-requires c κs = c .before .before .before .before .before .before .before .before .before .before .before .before .before .before .before .before .before .pre .0 .2 .low
@@ -144,7 +146,10 @@ copy-numbers-requires-2 c κs =
 -- all counts and ids
 written : (c : tie.After-slice-known6) → Put (c .before .before .before .before .before .before .before .before .before .before .before .before .before .before .before .before .before .put-left-labels .last .1 .1 .1 .1 .1 .0) (c .before .before .before .before .before .before .before .before .before .before .before .before .before .before .body-row .result) 0 (body (kept (c .before .before .before .before .before .before .before .before .before .before .before .before .before .before .before .before .before .before .before .before .before .before .before .before .before .before .before .before .before .before .before .before))) (c .before .before .copy-numbers2 .last .0) (c .before .before .before .before .before .before .before .before .before .before .before .before .put-left-edges .result + (c .before .before .before .before .before .before .before .before .before .before .before .before .before .before .before .before .before .before .before .before .before .before .before .before .before .before .before .before .before .before .before .before .args .z .sources + (c .before .before .before .before .before .before .before .before .before .before .before .before .before .before .before .before .before .before .before .before .before .before .before .before .before .before .before .before .before .before .before .before .args .z .targets + 2 * c .before .before .before .before .before .before .before .before .before .before .before .before .before .before .before .before .before .before .before .before .before .before .before .before .before .before .before .before .before .before .before .before .args .z .pairs)))
 unfolding kept
-written c = put-then (c .before .before .before .before .before .before .before .before .before .before .before .before .put-left-edges .ensures) (copied (now (c .before .before .before .before .before .before .before .before .before .before .before .before .before .before .before .before .before .before .before .before .before .before .before .before .before .before .before .before .before .before .before .before .args .src)) (listsFrom (c .before .before .before .before .before .before .before .before .before .before .before .before .before .before .before .before .before .before .before .before .before .before .before .before .before .before .before .before .before .before .before .before .args .z)) _ (c .before .before .copy-numbers2 .ensures) (c .before .before .before .before .before .body-row2 .ensures) (lists-there (c .before .before .before .before .before .before .before .before .before .before .before .before .before .before .before .before .before .before .before .before .before .before .before .before .before .before .before .before .before .before .before .before .pre .0 .0)) refl)
+written c =
+    let s = c .before .before .before .before .before .before .before .before .before .before .before .before .before .before .before .before .before .before .before .before .before .before .before .before .before .before .before .before .before .before .before .before in
+    put-then (c .before .before .before .before .before .before .before .before .before .before .before .before .put-left-edges .ensures)
+    (copied (now (s .args .src)) (listsFrom (s .args .z)) _ (c .before .before .copy-numbers2 .ensures) refl (c .before .before .before .before .before .body-row2 .ensures) (lists-there (s .pre .0 .0)) refl)
 
 same-length : tie.Need-same-length
 same-length c =
@@ -154,7 +159,8 @@ same-length c =
 returns : tie.Need-returns
 unfolding kept
 returns c =
-    drawn-by (now (c .before .before .before .before .before .before .before .before .before .before .before .before .before .before .before .before .before .before .before .before .before .before .before .before .before .before .before .before .before .before .before .before .args .out)) (c .before .before .before .before .before .before .before .before .before .before .before .before .before .before .before .before .before .before .before .before .before .before .before .before .before .before .before .before .before .before .before .before .args .y) (c .before .before .before .before .before .before .before .before .before .before .before .before .before .before .before .before .before .before .before .before .before .before .before .label-row2 .ensures) (c .before .before .before .before .before .before .before .before .before .before .before .before .before .before .body-row .ensures) (all-labels (c .before .before .before .before .before .before .before .before .before .before .before .before .before .before .before .before .before)) (written c)
+    let a = c .before .before .before .before .before .before .before .before .before .before .before .before .before .before .before .before .before .before .before .before .before .before .before .before .before .before .before .before .before .before .before .before .args in
+    drawn-by (now (a .out)) (a .y) (c .before .before .before .before .before .before .before .before .before .before .before .before .before .before .body-row .ensures) (all-labels (c .before .before .before .before .before .before .before .before .before .before .before .before .before .before .before .before .before)) (written c)
 
 pub put-without-edges-spec : {M : Type 1} → statement M
 put-without-edges-spec =
