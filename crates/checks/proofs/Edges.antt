@@ -19,7 +19,7 @@ use Rattle.graph.specs.Lists.{joined, occurrences}
 use Rattle.le.specs.Le.{Below}
 use Rattle.le.specs.Rows.{Holds, span}
 use Rattle.le.specs.declared.Row.{Row}
-use Rattle.form.proofs.Stored.{edge-there}
+use Rattle.form.proofs.Stored.{stored-rows, nodes-are, edges-are, edge-there}
 use Rattle.graph.proofs.Laws.{joined-append, joined-at}
 use Rattle.graph.proofs.Rows.{take-edges}
 use Rattle.le.proofs.Rows.{holds-less}
@@ -46,12 +46,6 @@ pub record Sofar (b table : List ℕ) (nodes i k : ℕ) : Type 0 where
   pub fed : Fed table nodes 1 (edgeSources (take i (graphOf b .edges))) (edgeTargets (take i (graphOf b .edges)))
 
 module _ {b : List ℕ} {z : Sizes} (s : Stored b z) where
-  is-nodes : z .nodes ≡ length (graphOf b .labels)
-  is-nodes = ap (λ (y : Sizes). y .nodes) (s .sizes)
-
-  is-edges : z .edges ≡ length (graphOf b .edges)
-  is-edges = ap (λ (y : Sizes). y .edges) (s .sizes)
-
   pub begun : (table : List ℕ) → Fed table (z .nodes) 1 [] [] → Sofar b table (z .nodes) 0 0
   begun table h = record { is-start = refl; fed = h }
 
@@ -75,15 +69,15 @@ module _ {b : List ℕ} {z : Sizes} (s : Stored b z) where
         let g = graphOf b in
         let d = getD (g .edges) i noEdge in
         let h = there in
-        let inside : i < length (g .edges) = omega (arith, is-edges) in
+        let inside : i < length (g .edges) = omega (arith, edges-are (stored-rows s)) in
         let before = edgeSources (take i (g .edges)) in
         let before′ = edgeTargets (take i (g .edges)) in
         subst (Fit (bodyOf z)) (sym (is ∙ h .counts)) (record {
           held =
               holds-less (h .ids-held) _
               (omega (arith, ap (λ (e : EdgeAt). e .sources) (h .counts), ap (λ (e : EdgeAt). e .targets) (h .counts), ap (λ (e : EdgeAt). e .end) (h .counts)));
-          sources-known = rw (h .source-ids, is-nodes) (h .sources-known);
-          targets-known = rw (h .target-ids, is-nodes) (h .targets-known);
+          sources-known = rw (h .source-ids, ← nodes-are (stored-rows s)) (h .sources-known);
+          targets-known = rw (h .target-ids, ← nodes-are (stored-rows s)) (h .targets-known);
           turn = λ new yes e f. record {
             is-start = refl;
             fed = rw (one-more (λ (e : Edge). e .sources) (g .edges) i inside, one-more (λ (e : Edge). e .targets) (g .edges) i inside, ← h .source-ids, ← h .target-ids)
@@ -91,7 +85,7 @@ module _ {b : List ℕ} {z : Sizes} (s : Stored b z) where
           };
           stop = λ new yes e f.
               let t : Twice (z .nodes) (before ++ d .sources) (before′ ++ d .targets) = rw (e, h .source-ids, h .target-ids) at (f before before′ (sofar .fed)) in
-              not-once-fed g (rw is-nodes at (twice-among (edgeSources (g .edges)) (edgeTargets (g .edges)) (among-all (λ e. e .sources) (g .edges) i inside)
+              not-once-fed g (rw (← nodes-are (stored-rows s)) at (twice-among (edgeSources (g .edges)) (edgeTargets (g .edges)) (among-all (λ e. e .sources) (g .edges) i inside)
               (among-all (λ e. e .targets) (g .edges) i inside) t));
         })
 
@@ -101,5 +95,5 @@ module _ {b : List ℕ} {z : Sizes} (s : Stored b z) where
   pub ended : (table : List ℕ) (i k : ℕ) → i ≡ z .edges → Sofar b table (z .nodes) i k → onceFed (graphOf b) ≡ true
   ended table i k e sofar =
       let g = graphOf b in
-      let all : take i (g .edges) ≡ g .edges = take-all i (g .edges) (omega (arith, is-edges)) in
-      is-once-fed table g (rw (all, is-nodes) at (sofar .fed))
+      let all : take i (g .edges) ≡ g .edges = take-all i (g .edges) (omega (arith, edges-are (stored-rows s))) in
+      is-once-fed table g (rw (all, ← nodes-are (stored-rows s)) at (sofar .fed))

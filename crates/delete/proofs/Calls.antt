@@ -1,87 +1,53 @@
--- The ways out of the two calls: what a list of ids is, and from the value met in code to what the call gives.
+-- The ways out of the two calls: from the value met in code to what the call gives.
 -- Assumes nothing.
-use mathlib.Core.Bool.{Bool, true, false}
+use mathlib.Core.Bool.{Bool}
 use mathlib.Core.List.{List}
-use mathlib.Core.Path.{_≡_, refl, sym, ap, _∙_, subst}
-use Prim.Native.Nat.{ℕ, _*_, _/_, _≤_}
-use native.Mathlib.Nat.{div-add-mod'}
+use mathlib.Core.Path.{_≡_, sym, ap, _∙_}
+use Prim.Native.Nat.{ℕ, _*_, _≤_}
 use native.Mathlib.Omega.{arith}
 use lib.Dec.{leb}
-use lib.ListN.{length, drop, length-map}
+use lib.ListN.{length, length-map}
 use lib.Seq.{sets}
-use borrow.Author.Tests.{leb-true}
-use Rattle.le.specs.Le.{Below, Wide, numbers, row}
-use Rattle.le.specs.Rows.{Holds, rowAt, placeIn, span, puts}
-use Rattle.le.proofs.Numbers.{length-numbers, length-row}
+use Rattle.le.specs.Le.{row}
+use Rattle.le.specs.Rows.{placeIn, puts}
+use Rattle.le.proofs.Numbers.{length-row}
 use Rattle.graph.specs.Answer as answer
 use Rattle.graph.specs.Answer.{Answer, refused, answered, Result, writing, lay, _else_, _>>=_, _>>_}
-use Rattle.graph.specs.Calls.{idList, fit, made, deleteEdgesStep, nodesDeleted}
+use Rattle.graph.specs.Calls.{idList, fit, made, deleteEdgesStep, nodesDeleted, roomDeleteEdges, roomDeleteNodes}
 use Rattle.graph.specs.Delete.{remaining, deleteEdges, withoutNodes, deleteNodes, whereTo, nodeMap}
 use Rattle.graph.specs.Build.{withEdges}
-use Rattle.graph.specs.Graph.{Graph, Format}
+use Rattle.graph.specs.Graph.{Graph}
 use Rattle.graph.specs.Lists.{among, range}
 use Rattle.graph.specs.Versions.{read, store, fitting}
 use Rattle.graph.specs.Form.{encode}
-use Rattle.graph.proofs.Lists.{below-true, length-range}
+use Rattle.graph.proofs.Lists.{length-range}
 use Rattle.graph.proofs.Places.{sets-lay}
-use Rattle.graph.proofs.Steps.{never, same-answer, same-refusal, passed, came, stops, goes}
-use Rattle.form.specs.Form.{meantBy, counted, tested, Gives, GivesMap}
+use Rattle.graph.proofs.Steps.{never, same-answer, same-refusal, came, stops, goes}
+use Rattle.form.specs.Form.{meantBy, tested}
 use Rattle.form.specs.Stored.{graphOf, formatOf, Stored}
 use Rattle.form.specs.declared.Sizes.{Sizes}
 use Rattle.form.specs.declared.Outcome.the-variants as call
 use Rattle.form.specs.declared.Refusal.{Refusal}
 use Rattle.form.specs.declared.Step.the-variants as step
 use Rattle.form.specs.declared.Step.{Step}
-use Rattle.form.proofs.Answers.{list-answered, test-refused, test-answered, gives-map-refused}
+use Rattle.form.proofs.Answers.{test-refused, test-answered}
+use Rattle.form.proofs.Stored.{stored-rows, nodes-are, edges-are}
+use Rattle.write.proofs.Calls.{next}
 use Rattle.delete.specs.Marks.{marked, unmarkedEdges, mapOf, placesOf}
-
-pub room-enough : (needed lent : ℕ) (r : Step) → r ≡ tested (leb needed lent else 10) → (n : ℕ) → r ≡ step.Number n → needed ≤ lent
-unfolding _else_
-room-enough needed lent r is n e = go (leb needed lent) refl (test-answered (leb needed lent else 10) r is n e .1)
-  where
-    go : (c : Bool) {x : Unit {0}} → leb needed lent ≡ c → (c else 10) ≡ answered x → needed ≤ lent
-    go true p q = leb-true needed lent p
-    go false p q = absurd (never q)
-
--- the refusal that code passes on
-pub passes : {a : Answer Result} {old : List ℕ} {q x : Refusal} → q ≡ x → Gives a (call.Refused x) old old → Gives a (call.Refused q) old old
-passes {a} {old} e h = subst (λ (k : Refusal). Gives a (call.Refused k) old old) (sym e) h
-
--- ---- a list of ids
-
--- n ids, all below the count
-pub record Listed (f : Format) (count width : ℕ) (b : List ℕ) (n : ℕ) : Type 0 where
-  pub is : idList f count b ≡ answered (span b (rowAt 0 width) 0 n)
-  pub held : Holds b (rowAt 0 width) n
-  pub below : Below count (span b (rowAt 0 width) 0 n)
-
-pub listed : (f : Format) (count width : ℕ) (b : List ℕ) → Wide width → f .width ≡ width → (r : Step) → r ≡ counted (idList f count b) → (n : ℕ) → r ≡ step.Number n
-    → Listed f count width b n
-unfolding idList span
-listed f count width b wide w r is n e =
-    let t = list-answered (idList f count b) r is n e in
-    let p = passed _ 7 _ (t .1) in
-    let q = passed _ 7 _ (p .1) in
-    let many : n ≡ length b / f .width = t .2 ∙ ap length (sym (same-answer (q .1))) ∙ length-numbers (f .width) (length b / f .width) b in
-    let start : 0 ≡ placeIn (rowAt 0 width) 0 = omega arith in
-    let all : numbers (f .width) (length b / f .width) b ≡ numbers width n (drop (placeIn (rowAt 0 width) 0) b) = λ i. numbers (w i) (sym many i) (drop (start i) b) in
-    let here : n ≡ length b / width = many ∙ ap (λ (k : ℕ). length b / k) w in
-    record {
-      is = t .1 ∙ ap answered (sym (same-answer (q .1)) ∙ all);
-      held = record { wide = wide; inside = rw here (omega (arith, div-add-mod' (length b) width)) };
-      below = subst (Below count) all (below-true count (numbers (f .width) (length b / f .width) b) (q .0));
-    }
 
 -- ---- deleting edges
 
-pub edges-stop : (f : Format) (ids : List ℕ) (g : Graph) (x : Refusal) → idList f (length (g .edges)) ids ≡ refused (meantBy x) → deleteEdgesStep f ids g ≡ refused (meantBy x)
-unfolding deleteEdgesStep
-edges-stop f ids g x e = stops _ e
+pub edges-roomy : {b : List ℕ} {z : Sizes} {n : ℕ} → Stored b z → roomDeleteEdges ≤ n → z .edges ≤ n
+edges-roomy s l = omega (arith, edges-are (stored-rows s), s .within .counts .edges)
 
-pub edges-next : (f : Format) (ids : List ℕ) (g : Graph) (list : List ℕ) → idList f (length (g .edges)) ids ≡ answered list
-    → deleteEdgesStep f ids g ≡ answered (record { graph = deleteEdges list g; id = 0 })
-unfolding deleteEdgesStep
-edges-next f ids g list e = goes _ e
+module _ {b : List ℕ} {z : Sizes} (s : Stored b z) (ids : List ℕ) where
+  pub edges-stop : (x : Refusal) → idList (formatOf b) (z .edges) ids ≡ refused (meantBy x) → deleteEdgesStep (formatOf b) ids (graphOf b) ≡ refused (meantBy x)
+  unfolding deleteEdgesStep
+  edges-stop x e = rw (edges-are (stored-rows s)) (stops _ e)
+
+  pub edges-next : (list : List ℕ) → idList (formatOf b) (z .edges) ids ≡ answered list → deleteEdgesStep (formatOf b) ids (graphOf b) ≡ answered (next (deleteEdges list (graphOf b)) 0)
+  unfolding deleteEdgesStep
+  edges-next list e = rw (edges-are (stored-rows s)) (goes _ e)
 
 -- marked or listed is the same
 pub unmarked-deleted : (room : List ℕ) (n : ℕ) (list : List ℕ) (g : Graph) → marked room n ≡ among list → unmarkedEdges room n g ≡ deleteEdges list g
@@ -90,13 +56,13 @@ unmarked-deleted room n list g e = ap (λ (goes : ℕ → Bool). withEdges (rema
 
 -- ---- deleting nodes
 
+pub nodes-roomy : {b : List ℕ} {z : Sizes} {n : ℕ} → Stored b z → roomDeleteNodes ≤ n → z .nodes ≤ n
+nodes-roomy s l = omega (arith, nodes-are (stored-rows s), s .within .counts .nodes)
+
 -- marked or listed is the same
 pub nodes-deleted : {goes : ℕ → Bool} (list : List ℕ) (g : Graph) → goes ≡ among list → withoutNodes goes g ≡ deleteNodes list g
 unfolding deleteNodes
 nodes-deleted list g e = ap (λ (goes : ℕ → Bool). withoutNodes goes g) e
-
-pub passes-map : {a : Answer Result} {old oldMap : List ℕ} {q x : Refusal} → q ≡ x → a ≡ refused (meantBy x) → GivesMap a (call.Refused q) old old oldMap oldMap
-passes-map {a} {old} {oldMap} {q} {x} e h = subst (λ (k : Refusal). GivesMap a (call.Refused k) old old oldMap oldMap) (sym e) (gives-map-refused x old oldMap h)
 
 -- two steps that are also another call's
 module _ {A B C D : Type 0} (m : Answer A) (next : A → Answer B) (f : B → C) (then : B → Answer D) where
@@ -133,7 +99,7 @@ module _ (b ids : List ℕ) (room mapRoom : ℕ) where
 
   module _ {z : Sizes} (s : Stored b z) where
     same-list : idList (formatOf b) (length (graphOf b .labels)) ids ≡ idList (formatOf b) (z .nodes) ids
-    same-list = ap (λ (y : Sizes). idList (formatOf b) (y .nodes) ids) (sym (s .sizes))
+    same-list = ap (λ (n : ℕ). idList (formatOf b) n ids) (nodes-are (stored-rows s))
 
     pub nodes-unlisted : (r : answer.Refusal) → idList (formatOf b) (z .nodes) ids ≡ refused r → nodesDeleted b ids room mapRoom ≡ refused r
     unfolding nodesDeleted

@@ -19,6 +19,7 @@ use Rattle.graph.specs.Delete.{remaining, newId, renamed, renamedEdge, renamedP
 use Rattle.graph.specs.Form.{noEdge}
 use Rattle.graph.specs.Graph.{Edge}
 use Rattle.graph.specs.Lists.{joined, keep, range, paired, flat}
+use Rattle.graph.proofs.Kept.{length-remaining}
 use Rattle.graph.proofs.Laws.{joined-append}
 use Rattle.graph.proofs.Lists.{range-add, flat-append}
 use Rattle.graph.proofs.Rows.{take-edges}
@@ -156,15 +157,6 @@ module _ (goes : ℕ → Bool) where
   pub kept : (id : ℕ) → goes id ≡ false → renamed goes (id ∷ []) ≡ newId goes id ∷ []
   kept id e = rw e
 
-  pub renamed-fewer : (xs : List ℕ) → length (renamed goes xs) ≤ length xs
-  renamed-fewer [] = omega arith
-  renamed-fewer (x ∷ xs) = pick (goes x) (renamed-fewer xs)
-    where
-      pick : (c : Bool) → length (renamed goes xs) ≤ length xs
-          → length (map (newId goes) (cond (not c) (x ∷ keep (λ id. not (goes id)) xs) (keep (λ id. not (goes id)) xs))) ≤ suc (length xs)
-      pick true k = omega arith
-      pick false k = omega arith
-
   remaining-append : {A : Type 0} (id : ℕ) (xs ys : List A) → remaining goes id (xs ++ ys) ≡ remaining goes id xs ++ remaining goes (id + length xs) ys
   remaining-append id [] ys = ap (λ (n : ℕ). remaining goes n ys) (sym (add-zero id))
   remaining-append {A} id (x ∷ xs) ys =
@@ -183,19 +175,8 @@ module _ (goes : ℕ → Bool) where
       remaining-append 0 xs (x ∷ []) ∙ ap (λ (n : ℕ). remaining goes 0 xs ++ cond (goes n) [] (x ∷ [])) (zero-add (length xs) ∙ e)
 
   -- as many as are numbered
-  remaining-count : {A : Type 0} (id : ℕ) (xs : List A) → newId goes id + length (remaining goes id xs) ≡ newId goes (id + length xs)
-  remaining-count id [] = simp add-zero
-  remaining-count {A} id (x ∷ xs) =
-      let e : suc id + length xs ≡ id + suc (length xs) = omega arith in
-      pick (goes id) refl (remaining-count (suc id) xs ∙ ap (newId goes) e)
-    where
-      pick : (c : Bool) → goes id ≡ c → newId goes (suc id) + length (remaining goes (suc id) xs) ≡ newId goes (id + suc (length xs))
-          → newId goes id + length (cond c (remaining goes (suc id) xs) (x ∷ remaining goes (suc id) xs)) ≡ newId goes (id + suc (length xs))
-      pick true e k = omega (arith, k, ap (λ (c : Bool). cond {A = ℕ} c 0 1) e)
-      pick false e k = omega (arith, k, ap (λ (c : Bool). cond {A = ℕ} c 0 1) e)
-
   pub left-count : {A : Type 0} (xs : List A) (n : ℕ) → n ≡ length xs → newId goes n ≡ length (remaining goes 0 xs)
-  left-count xs n e = ap (newId goes) (e ∙ sym (zero-add (length xs))) ∙ sym (remaining-count 0 xs) ∙ zero-add (length (remaining goes 0 xs))
+  left-count xs n e = ap (newId goes) (e ∙ sym (zero-add (length xs))) ∙ sym (length-remaining goes 0 xs) ∙ zero-add (length (remaining goes 0 xs))
 
   pub labels-grow : (b : List ℕ) (r : Row) (k n : ℕ) → Grows (λ i. remaining goes 0 (span b r k i)) (λ i. cond (goes i) [] (entry b r (k + i) ∷ [])) n
   labels-grow b r k n = record {

@@ -1,7 +1,7 @@
 -- The parts of a result: where they are copied from, the room that they have, and the form that they make.
 -- Assumes nothing.
 use mathlib.Core.Bool.{Bool, true, false, cond}
-use mathlib.Core.List.{List, [], _∷_, _++_, map}
+use mathlib.Core.List.{List, [], _++_, map}
 use mathlib.Core.Path.{_≡_, refl, sym, ap, _∙_, subst}
 use Prim.Native.Nat.{ℕ, zero, suc, _+_, _*_, _-_, _^_, _≤_, _<_}
 use native.Mathlib.Nat.{add-zero, zero-add, not-suc-le-zero, le-of-suc-le-suc}
@@ -21,7 +21,7 @@ use Rattle.form.specs.Form.{sizesOf, Low, labelsOf, bodyOf, bodySize, listsFrom
 use Rattle.form.specs.Stored.{graphOf, Stored}
 use Rattle.form.specs.declared.Sizes.{Sizes}
 use Rattle.write.specs.Write.{headed, drawn, Put, Room}
-use Rattle.graph.proofs.Kept.{new-id-le}
+use Rattle.graph.proofs.Kept.{new-id-le, remaining-map, renamed-labels}
 use Rattle.graph.proofs.Lists.{length-range}
 use Rattle.graph.proofs.WriteRead.{paired-flat}
 use Rattle.graph.proofs.Rows.{length-label-row, length-body}
@@ -60,18 +60,9 @@ module _ {out : List ℕ} {y : Sizes} (room : Room out y) (f : Format) (h : Grap
 
 -- ---- parts of what was read
 
-remaining-map : {A B : Type 0} (goes : ℕ → Bool) (f : A → B) (id : ℕ) (xs : List A) → remaining goes id (map f xs) ≡ map f (remaining goes id xs)
-remaining-map goes f id [] = refl
-remaining-map {A} {B} goes f id (x ∷ xs) = pick (goes id) (remaining-map goes f (suc id) xs)
-  where
-    pick : (c : Bool) → remaining goes (suc id) (map f xs) ≡ map f (remaining goes (suc id) xs)
-        → cond c (remaining goes (suc id) (map f xs)) (f x ∷ remaining goes (suc id) (map f xs)) ≡ map f (cond c (remaining goes (suc id) xs) (x ∷ remaining goes (suc id) xs))
-    pick true k = k
-    pick false k = ap (λ (r : List B). f x ∷ r) k
-
 module _ {b : List ℕ} {z : Sizes} (s : Stored b z) where
   pub left-labels : (goes : ℕ → Bool) → remaining goes 0 (span b (labelsOf z) (z .nodes) (z .edges)) ≡ map (λ (e : Edge). e .label) (remaining goes 0 (graphOf b .edges))
-  left-labels goes = ap (remaining goes 0) (stored-rows s .edge-labels) ∙ remaining-map goes (λ (e : Edge). e .label) 0 (graphOf b .edges)
+  left-labels goes = ap (remaining goes 0) (stored-rows s .edge-labels) ∙ sym (remaining-map goes (λ (e : Edge). e .label) 0 (graphOf b .edges))
 
   pub ids-there : span b (bodyOf z) (listsFrom z) (z .sources + z .targets) ≡ graphOf b .sources ++ graphOf b .targets
   ids-there =
@@ -96,11 +87,7 @@ span-known b r k n {xs} {high = high} is h l = subst (Below high) (sym is) (belo
 
 module _ {b : List ℕ} {z : Sizes} (s : Stored b z) (goes : ℕ → Bool) where
   pub edge-labels-kept : span b (labelsOf z) (z .nodes) (z .edges) ≡ map (λ (e : Edge). e .label) (map (renamedEdge goes) (graphOf b .edges))
-  edge-labels-kept = stored-rows s .edge-labels ∙ same (graphOf b .edges)
-    where
-      same : (es : List Edge) → map (λ (e : Edge). e .label) es ≡ map (λ (e : Edge). e .label) (map (renamedEdge goes) es)
-      same [] = refl
-      same (e ∷ es) = ap (λ (l : List ℕ). e .label ∷ l) (same es)
+  edge-labels-kept = stored-rows s .edge-labels ∙ sym (renamed-labels goes (graphOf b .edges))
 
   pub ids-moved : renamed goes (span b (bodyOf z) (listsFrom z) (z .sources + z .targets)) ≡ renamed goes (graphOf b .sources) ++ renamed goes (graphOf b .targets)
   ids-moved = ap (renamed goes) (ids-there s) ∙ renamed-append goes (graphOf b .sources) (graphOf b .targets)

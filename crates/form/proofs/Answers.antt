@@ -2,13 +2,19 @@
 -- Assumes nothing.
 use mathlib.Core.List.{List}
 use mathlib.Core.Path.{_≡_, refl, sym, ap, _∙_}
-use Prim.Native.Nat.{ℕ}
+use Prim.Native.Nat.{ℕ, _≤_}
 use native.Mathlib.Omega.{arith}
+use lib.Dec.{leb}
 use lib.ListN.{length}
-use Rattle.graph.specs.Answer.{Answer, refused, answered, Result, lay, laid, laidMap}
+use borrow.Author.Tests.{leb-true}
+use Rattle.graph.specs.Answer.{Answer, refused, answered, Result, lay, laid, laidMap, _else_, _>>_}
+use Rattle.graph.specs.Calls.{inWorkRoom}
+use Rattle.graph.proofs.Steps.{passed}
 use Rattle.graph.specs.Answer as answer
-use Rattle.form.specs.Form.{refusalOf, meantBy, numbered, counted, tested, outcome, Gives, GivesMap}
+use Rattle.form.specs.Form.{refusalOf, meantBy, numbered, counted, tested, outcome, Gives, GivesMap, refusalIn, refusalRead}
 use Rattle.form.specs.declared.Outcome.the-variants as call
+use Rattle.form.specs.declared.Reading.the-variants as reading
+use Rattle.form.specs.declared.Reading.{Reading}
 use Rattle.form.specs.declared.Refusal.{Refusal}
 use Rattle.form.specs.declared.Step.the-variants as step
 use Rattle.form.specs.declared.Step.{Step}
@@ -56,6 +62,29 @@ pub test-answered : {A : Type 0} (a : Answer A) (s : Step) → s ≡ tested a �
 test-answered a s e n h =
     let t = step-answered (λ x. 0) tested (λ r. refl) (λ x. refl) a s e n h in
     (t .0, t .1)
+
+-- ---- refusals that code passes on
+
+pub passed-on : {r : Step} {x q : Refusal} → r ≡ step.Refused x → q ≡ refusalIn r → r ≡ step.Refused q
+passed-on e p = e ∙ ap step.Refused (sym (p ∙ ap refusalIn e))
+
+pub passed-read : {r : Reading} {x q : Refusal} → r ≡ reading.Refused x → q ≡ refusalRead r → r ≡ reading.Refused q
+passed-read e p = e ∙ ap reading.Refused (sym (p ∙ ap refusalRead e))
+
+-- ---- work room
+
+module _ {A : Type 0} (needed lent : ℕ) (a : Answer A) (r : Step) (is : r ≡ tested (leb needed lent else 10)) where
+  pub work-short : (q : Refusal) → r ≡ step.Refused q → inWorkRoom needed lent a ≡ refused (meantBy q)
+  unfolding inWorkRoom _>>_
+  work-short q e = rw (test-refused (leb needed lent else 10) r is q e)
+
+  pub work-enough : (n : ℕ) → r ≡ step.Number n → inWorkRoom needed lent a ≡ a
+  unfolding inWorkRoom _>>_
+  work-enough n e = rw (test-answered (leb needed lent else 10) r is n e .1)
+
+pub room-enough : (needed lent : ℕ) (r : Step) → r ≡ tested (leb needed lent else 10) → (n : ℕ) → r ≡ step.Number n → needed ≤ lent
+unfolding inWorkRoom
+room-enough needed lent r is n e = leb-true needed lent (passed (leb needed lent) 10 (answered n) (work-enough needed lent (answered n) r is n e) .0)
 
 -- ---- a call: its outcome and its buffers
 

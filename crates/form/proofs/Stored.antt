@@ -6,13 +6,15 @@ use mathlib.Core.Path.{_≡_, refl, sym, ap, _∙_, subst}
 use Prim.Native.Nat.{ℕ, _+_, _*_, _≤_, _<_}
 use native.Mathlib.Nat.{zero-add, add-zero}
 use native.Mathlib.Omega.{arith}
+use mir.Syntax.{w8}
+use mir.Val.{Fits}
 use lib.ListN.{length, length-map, length-append, getD, take, drop}
 use lib.Seq.{take-at, drop-at}
 use Rattle.le.specs.Le.{Below, numbers}
 use Rattle.le.specs.declared.Row.{Row}
 use Rattle.le.specs.Rows.{placeIn, entry, span}
-use Rattle.le.proofs.Numbers.{below-front, below-back}
-use Rattle.le.proofs.Rows.{wide-some, wide-low, holds-less, span-at, span-part}
+use Rattle.le.proofs.Numbers.{below-each, below-front, below-back}
+use Rattle.le.proofs.Rows.{wide-some, wide-low, holds-less, length-span, span-at, span-part}
 use Rattle.graph.specs.Answer.{Answer, refused, answered, reply}
 use Rattle.graph.specs.Build.{empty}
 use Rattle.graph.specs.Form.{encode, body, labelRow, edgeRow, edgeStart, noEdge, headerBytes}
@@ -68,6 +70,9 @@ module _ (b : List ℕ) (r : Reading) (is : r ≡ reading (read b)) where
             within = subst (λ (s : versions.StoredGraph). WellFormed largest (s .graph)) same (h .version .grows (s .graph) (h .formed));
             whole = subst (λ (s : versions.StoredGraph). encode (s .format) (s .graph) ≡ b) same (h .whole);
           }
+
+pub stored-bytes : {b : List ℕ} {r : Reading} {z : Sizes} → r ≡ reading (read b) → ((i : ℕ) → Fits w8 (getD b i 0)) → r ≡ Sized z → Stored b z
+stored-bytes {b} {r} {z} is known e = stored b r is (below-each 256 b (λ i l. omega (arith, known i))) z e
 
 -- ---- the rows
 
@@ -201,3 +206,12 @@ edge-there {b} {z} s i k l e =
       sources-known = known .0;
       targets-known = known .1;
     }
+
+-- ---- how many stand there
+
+module _ {b : List ℕ} {z : Sizes} {g : Graph} (r : Rows b z g) where
+  pub nodes-are : length (g .labels) ≡ z .nodes
+  nodes-are = ap length (sym (r .labels)) ∙ length-span b (labelsOf z) 0 (z .nodes)
+
+  pub edges-are : length (g .edges) ≡ z .edges
+  edges-are = sym (length-map (g .edges) (λ (e : Edge). e .label)) ∙ ap length (sym (r .edge-labels)) ∙ length-span b (labelsOf z) (z .nodes) (z .edges)

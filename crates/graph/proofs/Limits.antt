@@ -41,7 +41,7 @@ module _ (goes : ℕ → Bool) where
       pick false k =
           (omega arith, omega (arith, k .1, length-append (part x) (joined part xs), length-append (part x) (joined part (remaining goes (suc id) xs))))
 
-  renamed-fewer : (xs : List ℕ) → length (renamed goes xs) ≤ length xs
+  pub renamed-fewer : (xs : List ℕ) → length (renamed goes xs) ≤ length xs
   renamed-fewer xs = omega (arith, length-map (keep (λ id. not (goes id)) xs) (newId goes), keep-fewer (λ (id : ℕ). not (goes id)) xs)
 
   ports-fewer : (es : List Edge) → length (edgeEntries (map (renamedEdge goes) es)) ≤ length (edgeEntries es)

@@ -1,6 +1,6 @@
 -- Room in an answer buffer: that of a buffer as long, and of fewer numbers of a row; and the parts of a stored graph that are copied whole.
 -- Assumes nothing.
-use mathlib.Core.List.{List, _++_, map}
+use mathlib.Core.List.{List, _++_}
 use mathlib.Core.Path.{_≡_, sym, ap, _∙_, subst}
 use Prim.Native.Nat.{ℕ, _+_, _*_, _-_, _≤_}
 use native.Mathlib.Omega.{arith}
@@ -10,9 +10,9 @@ use Rattle.le.specs.Rows.{Holds, span}
 use Rattle.le.specs.declared.Row.{Row}
 use Rattle.le.proofs.Rows.{holds-less, holds-same, length-span, span-append, span-part}
 use Rattle.graph.specs.Form.{edgeRow, body}
-use Rattle.graph.specs.Graph.{Edge, Graph}
+use Rattle.graph.specs.Graph.{Graph}
 use Rattle.graph.specs.Lists.{joined, flat}
-use Rattle.form.specs.Form.{labelsOf, bodyOf, bodySize, listsFrom}
+use Rattle.form.specs.Form.{bodyOf, bodySize, listsFrom}
 use Rattle.form.specs.Stored.{Rows}
 use Rattle.form.specs.declared.Sizes.{Sizes}
 
@@ -23,12 +23,6 @@ held h q is c e m l = subst (λ (k : Row). Holds c k m) (sym is) (holds-less (ho
 -- ---- a stored graph
 
 module _ {b : List ℕ} {z : Sizes} {g : Graph} (r : Rows b z g) where
-  pub nodes-are : length (g .labels) ≡ z .nodes
-  nodes-are = ap length (sym (r .labels)) ∙ length-span b (labelsOf z) 0 (z .nodes)
-
-  pub edges-are : length (map (λ (e : Edge). e .label) (g .edges)) ≡ z .edges
-  edges-are = ap length (sym (r .edge-labels)) ∙ length-span b (labelsOf z) (z .nodes) (z .edges)
-
   pub body-is : length (body g) ≡ bodySize z
   body-is = ap length (sym (r .body)) ∙ length-span b (bodyOf z) 0 (bodySize z)
 

@@ -1,5 +1,4 @@
 pub mod Held
 pub mod Drawn
 pub mod Bodies
-pub mod Listed
 pub mod Calls

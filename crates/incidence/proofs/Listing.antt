@@ -16,7 +16,7 @@ use Rattle.form.specs.Form.{bodyOf, edgeIn}
 use Rattle.form.specs.Stored.{graphOf, Stored, EdgeThere}
 use Rattle.form.specs.declared.EdgeAt.{EdgeAt}
 use Rattle.form.specs.declared.Sizes.{Sizes}
-use Rattle.form.proofs.Stored.{edge-there}
+use Rattle.form.proofs.Stored.{stored-rows, nodes-are, edges-are, edge-there}
 use Rattle.incidence.specs.Listed.{Appended, AllListed}
 use Rattle.incidence.specs.Tables.{part, zip, arcsIn}
 use Rattle.le.specs.Rows.{Holds, span}
@@ -71,14 +71,8 @@ pub record Sofar (b W : List ℕ) (nodes i k at : ℕ) : Type 0 where
   pub is-to : part W 8192 k ++ map (λ a. a .to) (arcsFrom (nodes + i) (drop i (graphOf b .edges))) ≡ map (λ a. a .to) (arcs (graphOf b))
 
 module _ (b : List ℕ) (z : Sizes) (s : Stored b z) where
-  is-nodes : length (graphOf b .labels) ≡ z .nodes
-  is-nodes = ap (λ (y : Sizes). y .nodes) (sym (s .sizes))
-
-  is-edges : length (graphOf b .edges) ≡ z .edges
-  is-edges = ap (λ (y : Sizes). y .edges) (sym (s .sizes))
-
   pub few-edges : (z .nodes ≤ 2048) × (z .edges ≤ 2048)
-  few-edges = (omega (arith, s .within .counts .nodes, is-nodes), omega (arith, s .within .counts .edges, is-edges))
+  few-edges = (omega (arith, s .within .counts .nodes, nodes-are (stored-rows s)), omega (arith, s .within .counts .edges, edges-are (stored-rows s)))
 
   all-few : length (map (λ a. a .from) (arcs (graphOf b))) ≤ 8192
   unfolding arcs
@@ -89,8 +83,8 @@ module _ (b : List ℕ) (z : Sizes) (s : Stored b z) where
   sofar-start W = record {
     is-start = refl;
     few = omega arith;
-    is-from = ap (λ (e : ℕ). map (λ a. a .from) (arcsFrom e (graphOf b .edges))) (add-zero (z .nodes) ∙ sym is-nodes);
-    is-to = ap (λ (e : ℕ). map (λ a. a .to) (arcsFrom e (graphOf b .edges))) (add-zero (z .nodes) ∙ sym is-nodes);
+    is-from = ap (λ (e : ℕ). map (λ a. a .from) (arcsFrom e (graphOf b .edges))) (add-zero (z .nodes) ∙ sym (nodes-are (stored-rows s)));
+    is-to = ap (λ (e : ℕ). map (λ a. a .to) (arcsFrom e (graphOf b .edges))) (add-zero (z .nodes) ∙ sym (nodes-are (stored-rows s)));
   }
 
   module _ (W : List ℕ) (i k at : ℕ) (c : Sofar b W (z .nodes) i k at) (l : i < z .edges) (long : 16384 ≤ length W) where
@@ -100,7 +94,7 @@ module _ (b : List ℕ) (z : Sizes) (s : Stored b z) where
     onward : drop i (graphOf b .edges) ≡ edge ∷ drop (i + 1) (graphOf b .edges)
     unfolding edge
     onward =
-        drop-cons (graphOf b .edges) i noEdge (omega (arith, is-edges)) ∙ ap (λ (n : ℕ). getD (graphOf b .edges) i noEdge ∷ drop n (graphOf b .edges)) (sym (add-one i))
+        drop-cons (graphOf b .edges) i noEdge (omega (arith, edges-are (stored-rows s))) ∙ ap (λ (n : ℕ). getD (graphOf b .edges) i noEdge ∷ drop n (graphOf b .edges)) (sym (add-one i))
 
     count : k + (length (edge .sources) + length (edge .targets)) ≤ 8192
     count =
@@ -163,7 +157,7 @@ module _ (b : List ℕ) (z : Sizes) (s : Stored b z) where
   pub sofar-done : (W : List ℕ) (i k at : ℕ) → Sofar b W (z .nodes) i k at → i ≡ z .edges → 16384 ≤ length W → AllListed b W k
   unfolding arcsFrom arcsIn arcs
   sofar-done W i k at c e long =
-      let over : drop i (graphOf b .edges) ≡ [] = drop-of-length-le (graphOf b .edges) {i = i} (omega (arith, is-edges)) in
+      let over : drop i (graphOf b .edges) ≡ [] = drop-of-length-le (graphOf b .edges) {i = i} (omega (arith, edges-are (stored-rows s))) in
       let f : part W 0 k ≡ map (λ a. a .from) (arcs (graphOf b)) =
       sym (append-nil (part W 0 k)) ∙ ap (λ (ds : List Edge). part W 0 k ++ map (λ a. a .from) (arcsFrom (z .nodes + i) ds)) (sym over) ∙ c .is-from in
       let t : part W 8192 k ≡ map (λ a. a .to) (arcs (graphOf b)) =

@@ -21,8 +21,8 @@ use Rattle.form.specs.Form.{sizesOf, labelsOf, bodyOf}
 use Rattle.form.specs.declared.Sizes.{Sizes}
 use Rattle.write.specs.Write.{countedAs, fitted, drawn}
 use Rattle.write.proofs.Results.{drawn-labels, drawn-numbers}
+use Rattle.write.proofs.Calls.{next}
 use Rattle.hypergraph.specs.Lent.{lent}
-use Rattle.hypergraph.proofs.Calls.{next}
 
 module _ (old : List ℕ) (y : Sizes) where
   pub identity-drawn : (n : ℕ) (ls : List ℕ) → length ls ≡ n

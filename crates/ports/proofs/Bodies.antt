@@ -29,7 +29,7 @@ use Rattle.form.specs.declared.Sizes.{Sizes}
 use Rattle.form.proofs.Stored.{edge-there}
 use Rattle.write.specs.Write.{countedAs, fitted, drawn, Put}
 use Rattle.write.proofs.Results.{put-then, drawn-numbers}
-use Rattle.hypergraph.proofs.Calls.{next}
+use Rattle.write.proofs.Calls.{next}
 use Rattle.ports.specs.Ports.{portStep, grown, added, portAt, ported}
 use Rattle.ports.specs.declared.Port.{Port}
 

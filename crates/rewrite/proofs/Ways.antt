@@ -1,27 +1,22 @@
 -- The ways out of reading and rewriting.
 -- Assumes nothing.
 use mathlib.Core.List.{List, [], _∷_}
-use mathlib.Core.Path.{_≡_, refl, sym, ap, _∙_, subst}
+use mathlib.Core.Path.{_≡_, refl, ap, _∙_}
 use Prim.Native.Nat.{ℕ, _≤_, _<_}
 use lib.ListN.{length}
 use borrow.Author.Tests.{le-leb, lt-leb}
 use Rattle.le.specs.Le.{row}
 use Rattle.le.specs.Rows.{rowAt, puts}
-use Rattle.graph.specs.Answer.{Answer, answered, refusal, Result, writing, lay, _else_, _>>=_, _>>_}
+use Rattle.graph.specs.Answer.{answered, writing, lay, _else_, _>>=_, _>>_}
 use Rattle.graph.specs.Calls.{rewriteStep, sizes, fit, readCall}
 use Rattle.graph.specs.Versions.{fitting, read}
 use Rattle.graph.proofs.Places.{sets-lay}
 use Rattle.form.specs.Form.{sizesOf, countsOf, Gives}
 use Rattle.form.specs.Stored.{graphOf, Stored}
 use Rattle.form.specs.declared.Outcome.the-variants as call
-use Rattle.form.specs.declared.Refusal.{Refusal}
 use Rattle.form.specs.declared.Sizes.{Sizes}
 use Rattle.form.proofs.Answers.{gives-refused, gives-done}
 use Rattle.write.specs.Write.{countedAs, fitted}
-
--- a refusal passed on
-pub refuse : {a : Answer Result} {q x : Refusal} {old new : List ℕ} → q ≡ x → Gives a (call.Refused x) old new → Gives a (call.Refused q) old new
-refuse {a} {q} {x} {old} {new} e g = subst (λ (k : Refusal). Gives a (call.Refused k) old new) (sym e) g
 
 -- rewriting makes the graph that was read, of the same sizes in the version that it fits
 pub read-again : {b : List ℕ} {z y : Sizes} → Stored b z → y ≡ fitted (countedAs (z .nodes) (z .edges) (z .sources) (z .targets) (z .pairs)) (z .ports)

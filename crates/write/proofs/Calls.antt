@@ -1,17 +1,16 @@
 -- The ways out of a call that writes a graph: from the value met in code to the call's outcome and buffer.
 -- Assumes nothing.
 use mathlib.Core.List.{List}
-use mathlib.Core.Path.{_≡_, sym, _∙_, subst}
+use mathlib.Core.Path.{_≡_, refl, sym, _∙_, subst}
 use Prim.Native.Nat.{ℕ, _≤_}
-use lib.Dec.{leb}
 use lib.ListN.{length}
-use Rattle.graph.specs.Answer.{Answer, refused, answered, Result, writing, _else_, _>>_}
-use Rattle.graph.specs.Calls.{Next, made, inWorkRoom, onNothing, onGraph}
+use Rattle.graph.specs.Answer.{Answer, refused, answered, Result, writing, _>>_}
+use Rattle.graph.specs.Calls.{Next, made, onNothing, onGraph}
 use Rattle.graph.specs.Form.{encode, labelRow, body}
 use Rattle.graph.specs.Graph.{Graph, Format}
 use Rattle.graph.specs.Versions.{fitting, read}
 use Rattle.graph.proofs.Verdicts.{call-unread, call-stopped, call-made, nothing-stopped, nothing-made}
-use Rattle.form.specs.Form.{meantBy, numbered, tested, sizesOf, Gives}
+use Rattle.form.specs.Form.{meantBy, numbered, sizesOf, refusalIn, Gives}
 use Rattle.form.specs.Stored.{storedOf, graphOf, formatOf, Stored}
 use Rattle.form.specs.declared.Outcome.the-variants as call
 use Rattle.form.specs.declared.Outcome.{Outcome}
@@ -19,23 +18,13 @@ use Rattle.form.specs.declared.Refusal.{Refusal}
 use Rattle.form.specs.declared.Sizes.{Sizes}
 use Rattle.form.specs.declared.Step.the-variants as step
 use Rattle.form.specs.declared.Step.{Step}
-use Rattle.form.proofs.Answers.{number-refused, number-answered, test-refused, test-answered, gives-refused, gives-done}
-use Rattle.write.specs.Write.{resultSize, drawn}
-use Rattle.write.proofs.Results.{Fits, result-refused, result-fits, drawn-whole}
+use Rattle.form.proofs.Answers.{number-refused, number-answered, passed-on, gives-refused, gives-done}
+pub use Rattle.form.proofs.Answers.{work-short, work-enough}
+use Rattle.write.specs.Write.{resultSize, drawn, Room}
+use Rattle.write.proofs.Results.{Fits, result-refused, result-fits, fits-room, drawn-whole}
 
 pub gives-by : {a b : Answer Result} {r : Outcome} {old new : List ℕ} → a ≡ b → Gives b r old new → Gives a r old new
 gives-by {r = r} {old = old} {new = new} e h = subst (λ (k : Answer Result). Gives k r old new) (sym e) h
-
--- ---- work room
-
-module _ {A : Type 0} (needed lent : ℕ) (a : Answer A) (r : Step) (is : r ≡ tested (leb needed lent else 10)) where
-  pub work-short : (q : Refusal) → r ≡ step.Refused q → inWorkRoom needed lent a ≡ refused (meantBy q)
-  unfolding inWorkRoom _>>_
-  work-short q e = rw (test-refused (leb needed lent else 10) r is q e)
-
-  pub work-enough : (n : ℕ) → r ≡ step.Number n → inWorkRoom needed lent a ≡ a
-  unfolding inWorkRoom _>>_
-  work-enough n e = rw (test-answered (leb needed lent else 10) r is n e .1)
 
 -- ---- what is made of a step's graph, in any call that makes it
 
@@ -85,14 +74,29 @@ module _ (start : Answer Next) (old : List ℕ) where
   pub nothing-stopped-gives : (x : Refusal) → start ≡ refused (meantBy x) → Gives (onNothing (length old) start) (call.Refused x) old old
   nothing-stopped-gives x e = gives-refused x old (nothing-stopped (length old) start (meantBy x) e)
 
-  module _ (x : Next) (is : start ≡ answered x) (y : Sizes) (sizes : y ≡ sizesOf (fitting (x .graph)) (x .graph)) (r : Step)
-      (size : r ≡ numbered (resultSize y (length old))) where
-    pub nothing-refused : (q : Refusal) → r ≡ step.Refused q → Gives (onNothing (length old) start) (call.Refused q) old old
-    nothing-refused = made-refused old (onNothing (length old) start) x (nothing-made (length old) start x is) y sizes r size
+-- ---- the end of a call
 
-    pub nothing-fits : (n : ℕ) → r ≡ step.Number n → Fits x y (length old) n
-    nothing-fits = made-fits old (onNothing (length old) start) x (nothing-made (length old) start x is) y sizes r size
+-- a step's graph and its id
+abbrev pub next : Graph → ℕ → Next
+next g id = record { graph = g; id = id }
 
-    pub nothing-done : (n : ℕ) → r ≡ step.Number n → (new : List ℕ) → new ≡ drawn old y (labelRow (x .graph)) (body (x .graph))
-        → Gives (onNothing (length old) start) (call.Done n (x .id)) old new
-    nothing-done = made-done old (onNothing (length old) start) x (nothing-made (length old) start x is) y sizes r size
+-- after the answer r to the size of its result h, of sizes y: refused; or there is room, and what was written is the result
+pub record Ends (a : Answer Result) (old : List ℕ) (y : Sizes) (r : Step) (h : Graph) (id : ℕ) : Type 0 where
+  pub refuses : {x q : Refusal} → r ≡ step.Refused x → q ≡ refusalIn r → Gives a (call.Refused q) old old
+  pub room : {n : ℕ} → r ≡ step.Number n → Room old y
+  pub done : {n : ℕ} {new : List ℕ} → r ≡ step.Number n → new ≡ drawn old y (labelRow h) (body h) → Gives a (call.Done n id) old new
+
+module _ (old : List ℕ) (h : Graph) (id : ℕ) {y : Sizes} (sizes : y ≡ sizesOf (fitting h) h) {r : Step} (size : r ≡ numbered (resultSize y (length old))) where
+  ends : (a : Answer Result) → a ≡ made (length old) (next h id) → Ends a old y r h id
+  ends a is = record {
+    refuses = λ {x} {q} e p. made-refused old a (next h id) is y sizes r size q (passed-on e p);
+    room = λ {n} e. fits-room (made-fits old a (next h id) is y sizes r size n e) old refl;
+    done = λ {n} {new} e w. made-done old a (next h id) is y sizes r size n e new w;
+  }
+
+  pub graph-ends : (b : List ℕ) (step : Format → Graph → Answer Next) {z : Sizes} → Stored b z → step (formatOf b) (graphOf b) ≡ answered (next h id)
+      → Ends (onGraph b (length old) step) old y r h id
+  graph-ends b step s is = ends (onGraph b (length old) step) (call-made b (length old) step (storedOf b) (s .read-as) (next h id) is)
+
+  pub nothing-ends : (start : Answer Next) → start ≡ answered (next h id) → Ends (onNothing (length old) start) old y r h id
+  nothing-ends start is = ends (onNothing (length old) start) (nothing-made (length old) start (next h id) is)

@@ -4,6 +4,7 @@ use mathlib.Core.Bool.{true}
 use mathlib.Core.Path.{_≡_, refl, _∙_}
 use Prim.Native.Nat.{_≤_, _<_, _-_}
 use native.Mathlib.Nat.{le-antisymm}
+use borrow.Author.Needs.{needs}
 use native.Mathlib.Omega.{arith}
 use lib.ListN.{length}
 use denote.Ref.{now}
@@ -59,12 +60,6 @@ returns c =
     list-stop (now (a .room)) (a .nodes) (a .way) (now (a .src)) (a .r) (a .k) (a .n) (l .i) (omega arith) (l .room) (l .inv .2) (x .result) (x .ensures .0) (known (c .before .before .before .before .before)) (omega arith)
     (c .before .before .before .before .before .before .before .before .before .before .pre .3) (f .result) (f .ensures .0) (f .last .0) (f .ensures .1) (not-true _ (c .if1 .taken))
 
-add-i : tie.Need-add-i Inv-loop μ-loop
-add-i c = omega arith
-
-loop-less : tie.Need-loop-less Inv-loop μ-loop
-loop-less c = omega arith
-
 loop-again : tie.Need-loop-again Inv-loop μ-loop
 loop-again c =
     let a = c .before .before .before .before .before .before .before .before .before .before .args in
@@ -98,8 +93,8 @@ feed-list-spec =
     feed-requires
     same-length
     returns
-    add-i
-    loop-less
+    (λ c. search needs)
+    (λ c. search needs)
     loop-again
     same-length-2
     returns-2)

@@ -15,9 +15,9 @@ use Rattle.graph.specs.Calls.{roomOnceFed, fedOnce, onceFedCall}
 use Rattle.graph.specs.Checks.{onceFed}
 use Rattle.graph.specs.Graph.{Graph}
 use Rattle.graph.specs.Versions as versions
-use Rattle.form.proofs.Stored.{stored}
-use Rattle.le.proofs.Numbers.{below-each}
-use Rattle.form.proofs.Pairless.{room-short, room-enough, graph-unread, graph-paired, graph-pairless}
+use Rattle.form.proofs.Stored.{stored-bytes}
+use Rattle.form.proofs.Answers.{room-enough}
+use Rattle.form.proofs.Pairless.{room-short, graph-unread, graph-paired, graph-pairless}
 use Rattle.checks.proofs.once_fed.Statement.{statement}
 use Rattle.checks.proofs.once_fed.Tie as tie
 
@@ -27,11 +27,7 @@ next s g = answered (saying (onceFed g))
 
 -- the form that was read
 form : (c : tie.After-known-told) → Stored (now (c .before .before .before .before .before .before .before .before .before .args .src)) (c .before .graph .given .0 .0)
-form c =
-    let b = now (c .before .before .before .before .before .before .before .before .before .args .src) in
-    let r = c .before .before .before .read in
-    let g = c .before .graph .given in
-    stored b (r .result) (r .ensures) (below-each 256 b (λ i l. omega (arith, c .before .before .before .before .before .before .before .before .shared-slice-known .given i))) (g .0 .0) (g .1)
+form c = stored-bytes (c .before .before .before .read .ensures) (c .before .before .before .before .before .before .before .before .shared-slice-known .given) (c .before .graph .given .1)
 
 -- what was found
 decided : (c : tie.After-feed-edges) → let a = c .before .before .before .before .before .before .before .before .before .before .before .before .before .before .args in outcome (onceFedCall (now (a .src)) (length (now (a .room)))) ≡ Done (cond (c .feed-edges .result) 1 0) 0
@@ -73,7 +69,7 @@ feed-edges-requires c κs =
     let a = c .before .before .before .before .before .before .before .before .before .before .before .before .before .args in
     let w = c .before .before .before .before .before .before .before .before .before .before .work-room in
     let s = form (c .before .before .before .before) in
-    let l = room-enough (now (a .src)) roomOnceFed (length (now (a .room))) next (w .result) (w .ensures) _ (c .before .before .before .before .before .before .before .before .enum-told .given .1) in
+    let l = room-enough roomOnceFed (length (now (a .room))) (w .result) (w .ensures) _ (c .before .before .before .before .before .before .before .before .enum-told .given .1) in
     (s, omega (arith, ap (λ (y : Sizes). y .nodes) (s .sizes), s .within .counts .nodes, l))
 
 returns-4 : tie.Need-returns-4

@@ -10,9 +10,6 @@ use Rattle.cycle.proofs.Finding.{found-low, removable-here, chose}
 use Rattle.cycle.proofs.choose.Statement.{statement}
 use Rattle.cycle.proofs.choose.Tie as tie
 
-next-candidate-requires : tie.Need-next-candidate-requires
-next-candidate-requires c κs = search needs
-
 add-set-word : tie.Need-add-set-word
 add-set-word c = omega (arith, found-low _ _ _ _ _ _ _ _ (c .before .before .before .next-candidate .ensures) (c .before .before .before .before .before .before .pre .0 .0))
 
@@ -25,9 +22,6 @@ remove-vertex-requires c κs = let w = c .before .before .before .set-word in (
   removable-here _ _ _ _ _ _ _ _ (c .before .before .before .before .before .before .before .next-candidate .ensures) (c .before .before .before .before .before .before .before .before .before .before .pre .0 .0) (words (w .last .0)) (w .ensures),
 )
 
-same-length : tie.Need-same-length
-same-length c = search needs
-
 returns : tie.Need-returns
 returns c = let w = c .before .before .before .before .before .before .set-word in
     let r = c .before .before .remove-vertex in
@@ -37,9 +31,9 @@ pub choose-spec : {M : Type 1} → statement M
 choose-spec =
     tie.close
     (tie.spec
-    next-candidate-requires
+    (λ c κs. search needs)
     add-set-word
     set-word-requires
     remove-vertex-requires
-    same-length
+    (λ c. search needs)
     returns)

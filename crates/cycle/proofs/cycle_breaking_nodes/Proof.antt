@@ -10,22 +10,18 @@ use borrow.Author.Needs.{needs}
 use Rattle.choice.specs.Calls.{roomCycleBreakingNodes, cycleBroken, cycleBreakingNodesCall}
 use Rattle.form.specs.Stored.{storedOf, graphOf, Stored}
 use Rattle.le.specs.Le.{words}
-use Rattle.form.proofs.Pairless.{room-short, room-enough, graph-unread, graph-paired, graph-pairless}
+use Rattle.form.proofs.Answers.{room-enough}
+use Rattle.form.proofs.Pairless.{room-short, graph-unread, graph-paired, graph-pairless}
 use Rattle.form.proofs.Answers.{gives-refused}
-use Rattle.form.proofs.Stored.{stored, stored-rows}
+use Rattle.form.proofs.Stored.{stored-rows, stored-bytes}
 use Rattle.incidence.proofs.Listing.{few-edges}
-use Rattle.le.proofs.Numbers.{below-each}
 use Rattle.cycle.proofs.Calls.{listing, flagged-count, ids-few, listing-10, listing-0}
 use Rattle.cycle.proofs.cycle_breaking_nodes.Statement.{statement}
 use Rattle.cycle.proofs.cycle_breaking_nodes.Tie as tie
 
 -- the form that was read
 form : (c : tie.After-known-told) → Stored (now (c .before .before .before .before .before .before .before .before .before .before .args .src)) (c .before .graph .given .0 .0)
-form c =
-    let b = now (c .before .before .before .before .before .before .before .before .before .before .args .src) in
-    let r = c .before .before .before .read in
-    let g = c .before .graph .given in
-    stored b (r .result) (r .ensures) (below-each 256 b (λ i l. omega (arith, c .before .before .before .before .before .before .before .before .before .shared-slice-known .given i))) (g .0 .0) (g .1)
+form c = stored-bytes (c .before .before .before .read .ensures) (c .before .before .before .before .before .before .before .before .before .shared-slice-known .given) (c .before .graph .given .1)
 
 -- no refusal was met
 whole : (c : tie.After-enum-told4) → let a = c .before .before .before .before .before .before .before .before .before .before .before .before .before .args in let b = now (a .src) in
@@ -42,19 +38,7 @@ whole c =
 long : (c : tie.After-enum-told4) → roomCycleBreakingNodes ≤ length (now (c .before .before .before .before .before .before .before .before .before .before .before .before .before .args .room))
 long c =
     let w = c .before .before .before .before .before .before .before .before .before .work-room in
-    room-enough (now (c .before .before .before .before .before .before .before .before .before .before .before .before .before .args .src)) roomCycleBreakingNodes _ (listing 0) (w .result) (w .ensures) _ (c .before .before .before .before .before .before .before .enum-told .given .1)
-
-work-room-requires : tie.Need-work-room-requires
-work-room-requires c κs = search needs
-
-enum-told : tie.Need-enum-told
-enum-told c = search needs
-
-enum-told-2 : tie.Need-enum-told-2
-enum-told-2 c = search needs
-
-refusal-requires : tie.Need-refusal-requires
-refusal-requires c κs = search needs
+    room-enough roomCycleBreakingNodes _ (w .result) (w .ensures) _ (c .before .before .before .before .before .before .before .enum-told .given .1)
 
 returns : tie.Need-returns
 unfolding cycleBroken
@@ -64,18 +48,6 @@ returns c =
     let r = c .refusal in
     gives-refused (r .result) (now (a .list))
     (room-short (now (a .src)) roomCycleBreakingNodes _ (listing (length (now (a .list)))) (w .result) (w .ensures) _ (c .before .enum-told2 .given .1) _ (r .ensures))
-
-read-requires : tie.Need-read-requires
-read-requires c κs = search needs
-
-enum-known-graph : tie.Need-enum-known-graph
-enum-known-graph c = search needs
-
-enum-told-3 : tie.Need-enum-told-3
-enum-told-3 c = search needs
-
-refusal-requires-2 : tie.Need-refusal-requires-2
-refusal-requires-2 c κs = search needs
 
 returns-2 : tie.Need-returns-2
 unfolding cycleBroken
@@ -87,18 +59,6 @@ returns-2 c =
     gives-refused (r .result) (now (a .list))
     (graph-unread (now (a .src)) roomCycleBreakingNodes _ (listing (length (now (a .list)))) (w .result) (w .ensures) _ (c .before .before .before .before .enum-told .given .1)
     (g .result) (g .ensures) _ (c .before .enum-told3 .given .1) _ (r .ensures))
-
-unpaired-requires : tie.Need-unpaired-requires
-unpaired-requires c κs = search needs
-
-enum-told-4 : tie.Need-enum-told-4
-enum-told-4 c = search needs
-
-enum-told-5 : tie.Need-enum-told-5
-enum-told-5 c = search needs
-
-refusal-requires-3 : tie.Need-refusal-requires-3
-refusal-requires-3 c κs = search needs
 
 returns-3 : tie.Need-returns-3
 unfolding cycleBroken
@@ -121,9 +81,6 @@ mul-if1 c =
     let few = ids-few _ _ s (words (f .last .0)) (f .result .ids) (f .result .free) (f .ensures) in
     omega (arith, few, stored-rows s .low .narrow, mul-le-mul-right (c .before .before .before .before .before .before .before .before .before .before .graph .given .0 .0 .width) few)
 
-same-length : tie.Need-same-length
-same-length c = search needs
-
 returns-4 : tie.Need-returns-4
 returns-4 c =
     let f = c .before .before .before .before .before .flag-nodes in
@@ -139,12 +96,6 @@ put-chosen-requires c κs =
     let n = ap (λ (k : ℕ). k * w) (flagged-count _ _ s (words (f .last .0)) (f .result .ids) (f .result .free) (f .ensures)) in
     (few-edges _ _ s .0, omega (arith, l, f .kept .0), record { wide = stored-rows s .low .width; inside = omega (arith, n, c .before .before .if1 .left) })
 
-same-length-2 : tie.Need-same-length-2
-same-length-2 c = search needs
-
-same-length-3 : tie.Need-same-length-3
-same-length-3 c = search needs
-
 returns-5 : tie.Need-returns-5
 returns-5 c =
     let f = c .before .before .before .before .before .before .before .before .before .before .flag-nodes in
@@ -155,26 +106,26 @@ pub cycle-breaking-nodes-spec : {M : Type 1} → statement M
 cycle-breaking-nodes-spec =
     tie.close
     (tie.spec
-    work-room-requires
-    enum-told
-    enum-told-2
-    refusal-requires
+    (λ c κs. search needs)
+    (λ c. search needs)
+    (λ c. search needs)
+    (λ c κs. search needs)
     returns
-    read-requires
-    enum-known-graph
-    enum-told-3
-    refusal-requires-2
+    (λ c κs. search needs)
+    (λ c. search needs)
+    (λ c. search needs)
+    (λ c κs. search needs)
     returns-2
-    unpaired-requires
-    enum-told-4
-    enum-told-5
-    refusal-requires-3
+    (λ c κs. search needs)
+    (λ c. search needs)
+    (λ c. search needs)
+    (λ c κs. search needs)
     returns-3
     flag-nodes-requires
     mul-if1
-    same-length
+    (λ c. search needs)
     returns-4
     put-chosen-requires
-    same-length-2
-    same-length-3
+    (λ c. search needs)
+    (λ c. search needs)
     returns-5)

@@ -12,21 +12,12 @@ use Rattle.cycle.proofs.flag_nodes.Tie as tie
 start-requires : tie.Need-start-requires
 start-requires c κs = ((few-edges _ _ (c .before .before .before .pre .1) .0, record { tables = omega arith; queue = λ z. omega arith }), c .before .before .before .pre .1)
 
-put-same-requires : tie.Need-put-same-requires
-put-same-requires c κs = search needs
-
-add-t12 : tie.Need-add-t12
-add-t12 c = search needs
-
 greedy-feedback-nodes-requires : tie.Need-greedy-feedback-nodes-requires
 greedy-feedback-nodes-requires c κs =
     let f = few-edges _ _ (c .before .before .before .before .before .before .before .before .before .before .before .before .pre .1) in
     let w = c .before .before .before .before .put-same in
     let e = w .kept .0 ∙ c .before .before .before .before .before .before .before .before .start .kept .0 in
     ((f .0, omega arith, record { tables = omega arith; queue = λ z. omega arith }), ready _ _ (c .before .before .before .before .before .before .before .before .before .before .before .before .pre .1) _ _ _ _ (c .before .before .before .before .before .before .before .before .start .ensures) (words (w .last .0)) (w .ensures))
-
-same-length : tie.Need-same-length
-same-length c = search needs
 
 returns : tie.Need-returns
 returns c =
@@ -39,8 +30,8 @@ flag-nodes-spec =
     tie.close
     (tie.spec
     start-requires
-    put-same-requires
-    add-t12
+    (λ c κs. search needs)
+    (λ c. search needs)
     greedy-feedback-nodes-requires
-    same-length
+    (λ c. search needs)
     returns)

@@ -2,7 +2,6 @@
 -- Assumes nothing.
 use mathlib.Core.Bool.{Bool, cond}
 use mathlib.Core.Path.{_≡_, sym, ap, _∙_}
-use native.Mathlib.Omega.{arith}
 use lib.ListN.{length}
 use denote.Ref.{now}
 use borrow.Author.Needs.{needs}
@@ -14,9 +13,9 @@ use Rattle.form.specs.declared.Outcome.the-variants.{Done}
 use Rattle.graph.specs.Answer.{Answer, Result, answered, saying}
 use Rattle.graph.specs.Graph.{Graph}
 use Rattle.graph.specs.Versions as versions
-use Rattle.form.proofs.Stored.{stored}
-use Rattle.le.proofs.Numbers.{below-each}
-use Rattle.form.proofs.Pairless.{room-short, room-enough, graph-unread, graph-paired, graph-pairless}
+use Rattle.form.proofs.Stored.{stored-bytes}
+use Rattle.form.proofs.Answers.{room-enough}
+use Rattle.form.proofs.Pairless.{room-short, graph-unread, graph-paired, graph-pairless}
 use Rattle.cycle.proofs.no_loop.Statement.{statement}
 use Rattle.cycle.proofs.no_loop.Tie as tie
 
@@ -26,11 +25,7 @@ next s g = answered (saying (noLoop g))
 
 -- the form that was read
 form : (c : tie.After-known-told) → Stored (now (c .before .before .before .before .before .before .before .before .before .args .src)) (c .before .graph .given .0 .0)
-form c =
-    let b = now (c .before .before .before .before .before .before .before .before .before .args .src) in
-    let r = c .before .before .before .read in
-    let g = c .before .graph .given in
-    stored b (r .result) (r .ensures) (below-each 256 b (λ i l. omega (arith, c .before .before .before .before .before .before .before .before .shared-slice-known .given i))) (g .0 .0) (g .1)
+form c = stored-bytes (c .before .before .before .read .ensures) (c .before .before .before .before .before .before .before .before .shared-slice-known .given) (c .before .graph .given .1)
 
 -- what was found
 decided : (c : tie.After-is-acyclic) → let a = c .before .before .before .before .before .before .before .before .before .before .before .before .before .before .args in outcome (noLoopCall (now (a .src)) (length (now (a .room)))) ≡ Done (cond (c .is-acyclic .result) 1 0) 0
@@ -42,36 +37,12 @@ decided c =
     (p .result) (p .ensures) _ (c .before .before .enum-told4 .given .1))
     ∙ ap (λ (yes : Bool). Done (cond yes 1 0) 0) (sym (c .is-acyclic .ensures))
 
-work-room-requires : tie.Need-work-room-requires
-work-room-requires c κs = search needs
-
-enum-told : tie.Need-enum-told
-enum-told c = search needs
-
-enum-told-2 : tie.Need-enum-told-2
-enum-told-2 c = search needs
-
-refusal-requires : tie.Need-refusal-requires
-refusal-requires c κs = search needs
-
 returns : tie.Need-returns
 unfolding loopFree
 returns c =
     let w = c .before .before .before .work-room in
     let r = c .refusal in
     sym (ap outcome (room-short (now (c .before .before .before .before .before .before .args .src)) roomNoLoop _ next (w .result) (w .ensures) _ (c .before .enum-told2 .given .1) (r .result) (r .ensures)))
-
-read-requires : tie.Need-read-requires
-read-requires c κs = search needs
-
-enum-known-graph : tie.Need-enum-known-graph
-enum-known-graph c = search needs
-
-enum-told-3 : tie.Need-enum-told-3
-enum-told-3 c = search needs
-
-refusal-requires-2 : tie.Need-refusal-requires-2
-refusal-requires-2 c κs = search needs
 
 returns-2 : tie.Need-returns-2
 unfolding loopFree
@@ -81,18 +52,6 @@ returns-2 c =
     let r = c .refusal2 in
     sym (ap outcome (graph-unread (now (c .before .before .before .before .before .before .before .before .before .args .src)) roomNoLoop _ next (w .result) (w .ensures) _ (c .before .before .before .before .enum-told .given .1)
     (g .result) (g .ensures) _ (c .before .enum-told3 .given .1) (r .result) (r .ensures)))
-
-unpaired-requires : tie.Need-unpaired-requires
-unpaired-requires c κs = search needs
-
-enum-told-4 : tie.Need-enum-told-4
-enum-told-4 c = search needs
-
-enum-told-5 : tie.Need-enum-told-5
-enum-told-5 c = search needs
-
-refusal-requires-3 : tie.Need-refusal-requires-3
-refusal-requires-3 c κs = search needs
 
 returns-3 : tie.Need-returns-3
 unfolding loopFree
@@ -108,17 +67,11 @@ is-acyclic-requires c κs =
     let a = c .before .before .before .before .before .before .before .before .before .before .before .before .before .args in
     let w = c .before .before .before .before .before .before .before .before .before .before .work-room in
     let s = form (c .before .before .before .before) in
-    let l = room-enough (now (a .src)) roomNoLoop (length (now (a .room))) next (w .result) (w .ensures) _ (c .before .before .before .before .before .before .before .before .enum-told .given .1) in
+    let l = room-enough roomNoLoop (length (now (a .room))) (w .result) (w .ensures) _ (c .before .before .before .before .before .before .before .before .enum-told .given .1) in
     (l, s)
-
-same-length : tie.Need-same-length
-same-length c = search needs
 
 returns-4 : tie.Need-returns-4
 returns-4 c = sym (decided (c .before .before .before) ∙ ap (λ (yes : Bool). Done (cond yes 1 0) 0) (c .if1 .taken))
-
-same-length-2 : tie.Need-same-length-2
-same-length-2 c = search needs
 
 returns-5 : tie.Need-returns-5
 returns-5 c = sym (decided (c .before .before .before) ∙ ap (λ (yes : Bool). Done (cond yes 1 0) 0) (c .if1 .left))
@@ -127,23 +80,23 @@ pub no-loop-spec : {M : Type 1} → statement M
 no-loop-spec =
     tie.close
     (tie.spec
-    work-room-requires
-    enum-told
-    enum-told-2
-    refusal-requires
+    (λ c κs. search needs)
+    (λ c. search needs)
+    (λ c. search needs)
+    (λ c κs. search needs)
     returns
-    read-requires
-    enum-known-graph
-    enum-told-3
-    refusal-requires-2
+    (λ c κs. search needs)
+    (λ c. search needs)
+    (λ c. search needs)
+    (λ c κs. search needs)
     returns-2
-    unpaired-requires
-    enum-told-4
-    enum-told-5
-    refusal-requires-3
+    (λ c κs. search needs)
+    (λ c. search needs)
+    (λ c. search needs)
+    (λ c κs. search needs)
     returns-3
     is-acyclic-requires
-    same-length
+    (λ c. search needs)
     returns-4
-    same-length-2
+    (λ c. search needs)
     returns-5)

@@ -3,6 +3,7 @@
 use mathlib.Core.Path.{_≡_, refl, sym, ap, _∙_}
 use Prim.Native.Nat.{_≤_, _-_}
 use native.Mathlib.Nat.{le-antisymm}
+use borrow.Author.Needs.{needs}
 use native.Mathlib.Omega.{arith}
 use lib.ListN.{length-append, length}
 use Rattle.cycle.specs.Choosing.{shown, flaggedBelow}
@@ -27,12 +28,6 @@ put-flagged-requires : tie.Need-put-flagged-requires Inv-loop μ-loop
 put-flagged-requires c κs = let a = c .before .before .before .before .before .args in
     let l = c .before .before .loop in
     (omega arith, omega arith, holds-same (holds-less (c .before .before .before .before .before .pre .2) _ (omega (arith, l .inv .1, flagged-fits (words (a .room .now)) (l .v) (a .nodes) (omega arith)))) (l .list) (l .inv .3))
-
-add-v : tie.Need-add-v Inv-loop μ-loop
-add-v c = omega arith
-
-loop-less : tie.Need-loop-less Inv-loop μ-loop
-loop-less c = omega arith
 
 loop-again : tie.Need-loop-again Inv-loop μ-loop
 loop-again c = let a = c .before .before .before .before .before .before .before .before .args in
@@ -61,8 +56,8 @@ put-chosen-spec =
     μ-loop
     loop-holds
     put-flagged-requires
-    add-v
-    loop-less
+    (λ c. search needs)
+    (λ c. search needs)
     loop-again
     same-length
     returns)

@@ -7,25 +7,24 @@ use native.Mathlib.Nat.{mul-le-mul-left}
 use lib.ListN.{length}
 use denote.Ref.{now}
 use Rattle.delete.specs.Marks.{marked, mapOf, goneIn, Mapped}
-use Rattle.form.specs.Form.{meantBy, countsOf, refusalIn, refusalRead, sizesOf, GivesMap}
+use Rattle.form.specs.Form.{countsOf, sizesOf, GivesMap}
 use Rattle.form.specs.Stored.{graphOf, formatOf, Stored}
 use Rattle.form.specs.declared.Outcome.the-variants.{Done}
 use Rattle.form.specs.declared.Outcome.{Outcome}
 use Rattle.form.specs.declared.Sizes.{Sizes}
 use Rattle.graph.specs.Answer.{Answer, Result}
-use Rattle.graph.specs.Calls.{Next, inWorkRoom, nodesDeleted, roomDeleteNodes, deleteNodesCall}
+use Rattle.graph.specs.Calls.{Next, idList, inWorkRoom, nodesDeleted, roomDeleteNodes, deleteNodesCall}
 use Rattle.graph.specs.Delete.{withoutNodes, deleteNodes}
 use Rattle.graph.specs.Form.{labelRow, body}
 use Rattle.graph.specs.Graph.{Graph}
 use Rattle.graph.specs.Versions.{fitting}
 use Rattle.le.specs.Rows.{Holds, span}
 use Rattle.write.specs.Write.{fitted, drawn}
-use Rattle.form.proofs.Answers.{list-refused, number-refused, number-answered, gives-map-done}
-use Rattle.form.proofs.Stored.{unread, stored, stored-rows}
-use Rattle.le.proofs.Numbers.{below-each}
-use Rattle.write.proofs.Calls.{work-short, work-enough}
+use Rattle.form.proofs.Answers.{number-refused, number-answered, passed-on, passed-read, work-short, work-enough, room-enough, gives-map-refused, gives-map-done}
+use Rattle.form.proofs.Listed.{Given, ids-given, ids-refused, ids-below}
+use Rattle.form.proofs.Stored.{unread, stored-rows, stored-bytes}
 use Rattle.write.proofs.Results.{Fits, result-refused, result-fits, fits-room, drawn-whole}
-use Rattle.delete.proofs.Calls.{room-enough, passes-map, Listed, listed, nodes-deleted, nodes-unread, nodes-unlisted, nodes-refused, nodes-no-map, nodes-done, map-put}
+use Rattle.delete.proofs.Calls.{nodes-roomy, nodes-deleted, nodes-unread, nodes-unlisted, nodes-refused, nodes-no-map, nodes-done, map-put}
 use Rattle.delete.proofs.Marks.{outside}
 use Rattle.delete.proofs.Parts.{map-made}
 use borrow.Author.Needs.{needs}
@@ -42,28 +41,14 @@ enough c = work-enough roomDeleteNodes _ (call (c .before .before .before .befor
 
 -- the form that was read: there is a byte of room for each of its nodes
 form : (c : tie.After-known-told) → Stored (now (c .before .before .before .before .before .before .before .before .before .before .before .before .args .src)) (c .before .graph .given .0 .0)
-form c =
-    let b = now (c .before .before .before .before .before .before .before .before .before .before .before .before .args .src) in
-    stored b (c .before .before .before .read .result) (c .before .before .before .read .ensures) (below-each 256 b (λ i l. omega (arith, c .before .before .before .before .before .before .before .before .before .before .before .shared-slice-known .given i))) (c .before .graph .given .0 .0) (c .before .graph .given .1)
+form c = stored-bytes (c .before .before .before .read .ensures) (c .before .before .before .before .before .before .before .before .before .before .before .shared-slice-known .given) (c .before .graph .given .1)
 
 roomy : (c : tie.After-known-told) → c .before .graph .given .0 .0 .nodes ≤ length (now (c .before .before .before .before .before .before .before .before .before .before .before .before .args .room))
-roomy c =
-    let r = c .before .before .before .before .before .before .work-room in
-    omega (
-      arith,
-      ap (λ (y : Sizes). y .nodes) (form c .sizes),
-      form c .within .counts .nodes,
-      room-enough roomDeleteNodes (length (now (c .before .before .before .before .before .before .before .before .before .before .before .before .args .room))) (r .result) (r .ensures) _ (c .before .before .before .before .enum-told .given .1),
-    )
+roomy c = nodes-roomy (form c) (room-enough roomDeleteNodes _ (c .before .before .before .before .before .before .work-room .result) (c .before .before .before .before .before .before .work-room .ensures) _ (c .before .before .before .before .enum-told .given .1))
 
 -- the list that was checked, and what is left without it
-list : (c : tie.After-known-told2) → Listed (formatOf (now (c .before .before .before .before .before .before .before .before .before .before .before .before .before .before .before .before .args .src))) (c .before .before .before .before .before .graph .given .0 .0 .nodes) (c .before .before .before .before .before .graph .given .0 .0 .width) (now (c .before .before .before .before .before .before .before .before .before .before .before .before .before .before .before .before .args .ids)) (c .before .list .given .0 .0)
-list c =
-    let z = c .before .before .before .before .before .graph .given .0 .0 in
-    let f = formatOf (now (c .before .before .before .before .before .before .before .before .before .before .before .before .before .before .before .before .args .src)) in
-    let s = form (c .before .before .before .before) in
-    let w = sym (ap (λ (y : Sizes). y .width) (s .sizes)) in
-    listed f (z .nodes) (z .width) (now (c .before .before .before .before .before .before .before .before .before .before .before .before .before .before .before .before .args .ids)) (stored-rows s .low .width) w (c .before .before .before .id-list .result) (c .before .before .before .id-list .ensures f w) _ (c .before .list .given .1)
+list : (c : tie.After-known-told2) → Given (idList (formatOf (now (c .before .before .before .before .before .before .before .before .before .before .before .before .before .before .before .before .args .src))) (c .before .before .before .before .before .graph .given .0 .0 .nodes) (now (c .before .before .before .before .before .before .before .before .before .before .before .before .before .before .before .before .args .ids))) (now (c .before .before .before .before .before .before .before .before .before .before .before .before .before .before .before .before .args .ids)) (c .before .before .before .before .before .graph .given .0 .0 .width) (c .before .list .given .0 .0)
+list c = ids-given (form (c .before .before .before .before)) _ _ (c .before .before .before .id-list .result) (c .before .before .before .id-list .ensures) _ (c .before .list .given .1)
 
 abbrev left : tie.After-known-told2 → Next
 left c = record { graph = deleteNodes (span (now (c .before .before .before .before .before .before .before .before .before .before .before .before .before .before .before .before .args .ids)) (mapOf (c .before .before .before .before .before .graph .given .0 .0)) 0 (c .before .list .given .0 .0)) (graphOf (now (c .before .before .before .before .before .before .before .before .before .before .before .before .before .before .before .before .args .src))); id = 0 }
@@ -93,33 +78,25 @@ map-held c =
 
 returns : tie.Need-returns
 returns c =
-    let s = c .before .before .before .before .before .before .before .before .before in
-    let x = c .before .enum-told2 .given in
-    passes-map (c .refusal .ensures ∙ ap refusalIn (x .1)) (work-short roomDeleteNodes _ (call s) (c .before .before .before .work-room .result) (c .before .before .before .work-room .ensures) (x .0 .0) (x .1))
+    gives-map-refused _ _ _ (work-short roomDeleteNodes _ (call (c .before .before .before .before .before .before .before .before .before)) (c .before .before .before .work-room .result) (c .before .before .before .work-room .ensures) _ (passed-on (c .before .enum-told2 .given .1) (c .refusal .ensures)))
 
 returns-2 : tie.Need-returns-2
 returns-2 c =
-    let s = c .before .before .before .before .before .before .before .before .before .before .before .before in
-    let x = c .before .enum-told3 .given in
+    let a = c .before .before .before .before .before .before .before .before .before .before .before .before .args in
     let r = c .before .before .before .read in
-    passes-map (c .refusal2 .ensures ∙ ap refusalRead (x .1))
-    (enough (c .before .before .before .before) ∙ nodes-unread (now (s .args .src)) (now (s .args .ids)) _ _ (meantBy (x .0 .0)) (unread (now (s .args .src)) (r .result) (r .ensures) (x .0 .0) (x .1)))
+    gives-map-refused _ _ _ (enough (c .before .before .before .before) ∙ nodes-unread (now (a .src)) (now (a .ids)) _ _ _ (unread (now (a .src)) (r .result) (r .ensures) _ (passed-read (c .before .enum-told3 .given .1) (c .refusal2 .ensures))))
 
 id-list-requires : tie.Need-id-list-requires
 id-list-requires c κs = stored-rows (form c) .low .width
 
 returns-3 : tie.Need-returns-3
 returns-3 c =
-    let s = c .before .before .before .before .before .before .before .before .before .before .before .before .before .before .before .before in
-    let b = now (s .args .src) in
-    let x = c .before .enum-told4 .given in
+    let a = c .before .before .before .before .before .before .before .before .before .before .before .before .before .before .before .before .args in
     let f = form (c .before .before .before .before) in
-    passes-map (c .refusal3 .ensures ∙ ap refusalIn (x .1))
-    (enough (c .before .before .before .before .before .before .before .before) ∙ nodes-unlisted b (now (s .args .ids)) _ _ f (meantBy (x .0 .0))
-    (list-refused _ (c .before .before .before .id-list .result) (c .before .before .before .id-list .ensures (formatOf b) (sym (ap (λ (y : Sizes). y .width) (f .sizes)))) (x .0 .0) (x .1)))
+    gives-map-refused _ _ _ (enough (c .before .before .before .before .before .before .before .before) ∙ nodes-unlisted (now (a .src)) (now (a .ids)) _ _ f _ (ids-refused f _ _ _ (c .before .before .before .id-list .ensures) _ (passed-on (c .before .enum-told4 .given .1) (c .refusal3 .ensures))))
 
 mark-requires : tie.Need-mark-requires
-mark-requires c κs = (roomy (c .before .before .before .before .before), list (c .before) .held, list (c .before) .below)
+mark-requires c κs = (roomy (c .before .before .before .before .before), list (c .before) .there, ids-below (form (c .before .before .before .before .before)) _ _ (c .before .before .before .before .id-list .result) (c .before .before .before .before .id-list .ensures) _ (c .before .before .list .given .1))
 
 without-nodes-requires : tie.Need-without-nodes-requires
 without-nodes-requires c κs = (form (c .before .before .before .before .before .before .before .before .before), marks (c .before .before .before))
@@ -129,12 +106,11 @@ result-size-requires c κs = sizes c ∙ ap (λ (y : Sizes). fitted (countsOf y)
 
 returns-4 : tie.Need-returns-4
 returns-4 c =
-    let s = c .before .before .before .before .before .before .before .before .before .before .before .before .before .before .before .before .before .before .before .before .before .before .before .before .before .before in
-    let x = c .before .enum-told5 .given in
+    let a = c .before .before .before .before .before .before .before .before .before .before .before .before .before .before .before .before .before .before .before .before .before .before .before .before .before .before .args in
     let r = c .before .before .before .result-size in
-    passes-map (c .refusal4 .ensures ∙ ap refusalIn (x .1))
-    (enough (c .before .before .before .before .before .before .before .before .before .before .before .before .before .before .before .before .before .before) ∙ nodes-refused (now (s .args .src)) (now (s .args .ids)) _ _ (form (c .before .before .before .before .before .before .before .before .before .before .before .before .before .before)) _ (list (c .before .before .before .before .before .before .before .before .before .before) .is) (meantBy (x .0 .0))
-    (result-refused (left (c .before .before .before .before .before .before .before .before .before .before)) (c .before .before .before .before .without-nodes .result) (sizes (c .before .before .before .before)) (length (now (s .args .out))) (meantBy (x .0 .0)) (number-refused _ (r .result) (r .ensures) (x .0 .0) (x .1))))
+    gives-map-refused _ _ _
+    (enough (c .before .before .before .before .before .before .before .before .before .before .before .before .before .before .before .before .before .before) ∙ nodes-refused (now (a .src)) (now (a .ids)) _ _ (form (c .before .before .before .before .before .before .before .before .before .before .before .before .before .before)) _ (list (c .before .before .before .before .before .before .before .before .before .before) .answers) _
+    (result-refused (left (c .before .before .before .before .before .before .before .before .before .before)) (c .before .before .before .before .without-nodes .result) (sizes (c .before .before .before .before)) (length (now (a .out))) _ (number-refused _ (r .result) (r .ensures) _ (passed-on (c .before .enum-told5 .given .1) (c .refusal4 .ensures)))))
 
 mul-work-room : tie.Need-mul-work-room
 mul-work-room c =
@@ -143,11 +119,10 @@ mul-work-room c =
 
 returns-5 : tie.Need-returns-5
 returns-5 c =
-    let s = c .before .before .before .before .before .before .before .before .before .before .before .before .before .before .before .before .before .before .before .before .before .before .before .before .before .before .before .before .before .before .before in
-    let x = c .before .enum-told7 .given in
+    let a = c .before .before .before .before .before .before .before .before .before .before .before .before .before .before .before .before .before .before .before .before .before .before .before .before .before .before .before .before .before .before .before .args in
     let r = c .before .before .before .work-room2 in
-    passes-map (c .refusal5 .ensures ∙ ap refusalIn (x .1))
-    (enough (c .before .before .before .before .before .before .before .before .before .before .before .before .before .before .before .before .before .before .before .before .before .before .before) ∙ nodes-no-map (now (s .args .src)) (now (s .args .ids)) _ _ (form (c .before .before .before .before .before .before .before .before .before .before .before .before .before .before .before .before .before .before .before)) _ (list (c .before .before .before .before .before .before .before .before .before .before .before .before .before .before .before) .is) (fits (c .before .before .before .before .before) .makes) (r .result) (r .ensures) (x .0 .0) (x .1))
+    gives-map-refused _ _ _
+    (enough (c .before .before .before .before .before .before .before .before .before .before .before .before .before .before .before .before .before .before .before .before .before .before .before) ∙ nodes-no-map (now (a .src)) (now (a .ids)) _ _ (form (c .before .before .before .before .before .before .before .before .before .before .before .before .before .before .before .before .before .before .before)) _ (list (c .before .before .before .before .before .before .before .before .before .before .before .before .before .before .before) .answers) (fits (c .before .before .before .before .before) .makes) (r .result) (r .ensures) _ (passed-on (c .before .enum-told7 .given .1) (c .refusal5 .ensures)))
 
 put-map-requires : tie.Need-put-map-requires
 put-map-requires c κs = (marks (c .before .before .before .before .before .before .before .before .before .before .before .before .before .before), stored-rows (form (c .before .before .before .before .before .before .before .before .before .before .before .before .before .before .before .before .before .before .before .before)) .low .nodes, map-held (c .before .before))
@@ -181,13 +156,13 @@ returns-6 c =
     let new = c .before .before .put-without-nodes .ensures ∙ ap (λ (h : Graph). drawn (now (s .args .out)) y (labelRow h) (body h)) (nodes-deleted _ (graphOf (now (s .args .src))) (sym (made (c .before .before .before .before .before .before .before .before) .1) ∙ c .before .before .before .before .before .before .before .before .before .before .before .before .before .before .before .before .before .before .before .before .before .before .before .mark .ensures))
     ∙ drawn-whole (now (s .args .out)) g y (sizes (c .before .before .before .before .before .before .before .before .before .before .before .before .before .before .before .before .before .before .before)) (subst (λ (n : ℕ). n ≤ length (now (s .args .out))) (k .long) (k .enough)) in
     let table = c .before .before .before .before .before .before .before .before .put-map .ensures
-    ∙ map-put (now (s .args .src)) (now (s .args .ids)) (length (now (s .args .out))) (length (now (s .args .map))) f _ (l .is) (c .before .before .before .before .before .before .before .before .before .before .before .before .before .before .before .before .before .before .before .before .before .before .before .mark .last .0) (now (s .args .map)) (c .before .before .before .before .before .before .before .before .before .before .before .before .before .before .before .before .before .before .before .before .before .before .before .mark .ensures)
+    ∙ map-put (now (s .args .src)) (now (s .args .ids)) (length (now (s .args .out))) (length (now (s .args .map))) f _ (l .answers) (c .before .before .before .before .before .before .before .before .before .before .before .before .before .before .before .before .before .before .before .before .before .before .before .mark .last .0) (now (s .args .map)) (c .before .before .before .before .before .before .before .before .before .before .before .before .before .before .before .before .before .before .before .before .before .before .before .mark .ensures)
     (room-enough _ (length (now (s .args .map))) (r .result) (r .ensures) _ (c .before .before .before .before .before .before .before .before .before .before .before .enum-told6 .given .1)) in
     let nodes = ap (λ (z : Sizes). z .nodes) (f .sizes) in
     subst (λ (o : Outcome). GivesMap (deleteNodesCall (now (s .args .src)) (now (s .args .ids)) (length (now (s .args .out))) (length (now (s .args .map))) (length (now (s .args .room)))) o (now (s .args .out)) (c .before .before .put-without-nodes .last .1 .1 .1 .1 .1 .0) (now (s .args .map)) (c .before .before .before .before .before .before .before .before .put-map .last .1 .1 .0))
     (λ i. Done (sym (k .long) i) (sym nodes i))
     (gives-map-done _ (now (s .args .out)) _ (now (s .args .map)) _
-    (enough (c .before .before .before .before .before .before .before .before .before .before .before .before .before .before .before .before .before .before .before .before .before .before .before .before .before .before .before .before .before .before .before .before .before) ∙ nodes-done (now (s .args .src)) (now (s .args .ids)) (length (now (s .args .out))) (length (now (s .args .map))) f _ (l .is) (k .makes) (r .result) (r .ensures) _ (c .before .before .before .before .before .before .before .before .before .before .before .enum-told6 .given .1)) new table)
+    (enough (c .before .before .before .before .before .before .before .before .before .before .before .before .before .before .before .before .before .before .before .before .before .before .before .before .before .before .before .before .before .before .before .before .before) ∙ nodes-done (now (s .args .src)) (now (s .args .ids)) (length (now (s .args .out))) (length (now (s .args .map))) f _ (l .answers) (k .makes) (r .result) (r .ensures) _ (c .before .before .before .before .before .before .before .before .before .before .before .enum-told6 .given .1)) new table)
 
 pub delete-nodes-spec : {M : Type 1} → statement M
 delete-nodes-spec =

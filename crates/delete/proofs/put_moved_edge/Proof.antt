@@ -12,10 +12,11 @@ use Rattle.form.specs.Form.{bodyOf}
 use Rattle.graph.specs.Delete.{renamed}
 use Rattle.le.specs.Rows.{Holds, entry, span, puts}
 use Rattle.le.specs.declared.Row.{Row}
+use Rattle.graph.proofs.Limits.{renamed-fewer}
 use Rattle.write.specs.Write.{Put}
 use Rattle.le.proofs.Rows.{holds-less, holds-same, holds-index, length-span, span-append}
 use Rattle.write.proofs.Results.{put-none}
-use Rattle.delete.proofs.Grows.{renamed-fewer, renamed-append, counts-last, entry-below, ids-grow, put-length, put-fits, put-more}
+use Rattle.delete.proofs.Grows.{renamed-append, counts-last, entry-below, ids-grow, put-length, put-fits, put-more}
 use Rattle.delete.proofs.Parts.{at-row}
 use borrow.Author.Needs.{needs}
 use native.Mathlib.Omega.{arith}

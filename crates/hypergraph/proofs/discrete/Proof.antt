@@ -11,13 +11,12 @@ use borrow.Author.Needs.{needs}
 use Rattle.graph.specs.Build.{discrete}
 use Rattle.graph.specs.Calls.{discreteCall, discreteStep, labelList}
 use Rattle.graph.proofs.Steps.{stops, goes}
-use Rattle.form.proofs.Answers.{list-refused}
+use Rattle.form.proofs.Answers.{list-refused, passed-on}
 use Rattle.write.specs.Write.{drawn, fitted, countedAs}
-use Rattle.write.proofs.Calls.{nothing-stopped-gives}
+use Rattle.write.proofs.Calls.{nothing-stopped-gives, Ends, nothing-ends}
+use Rattle.form.proofs.Listed.{Given, labels-given}
 use Rattle.hypergraph.specs.Lent.{lent}
 use Rattle.hypergraph.proofs.Bodies.{discrete-labels}
-use Rattle.hypergraph.proofs.Calls.{Ends, nothing-ends, passed-on}
-use Rattle.hypergraph.proofs.Listed.{Given, labels-given}
 use Rattle.hypergraph.proofs.discrete.Statement.{statement}
 use Rattle.hypergraph.proofs.discrete.Tie as tie
 

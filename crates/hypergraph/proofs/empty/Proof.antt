@@ -7,7 +7,7 @@ use borrow.Author.Needs.{needs}
 use Rattle.graph.specs.Build.{empty}
 use Rattle.graph.specs.Calls.{emptyCall, emptyStep}
 use Rattle.write.proofs.Results.{drawn-start}
-use Rattle.hypergraph.proofs.Calls.{Ends, nothing-ends}
+use Rattle.write.proofs.Calls.{Ends, nothing-ends}
 use Rattle.hypergraph.proofs.empty.Statement.{statement}
 use Rattle.hypergraph.proofs.empty.Tie as tie
 

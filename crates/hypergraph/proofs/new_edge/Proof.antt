@@ -8,42 +8,31 @@ use lib.ListN.{length}
 use borrow.Author.Needs.{needs}
 use Rattle.graph.specs.Build.{newEdge}
 use Rattle.graph.specs.Calls.{newEdgeCall, newEdgeStep, idList}
-use Rattle.le.proofs.Numbers.{below-each}
 use Rattle.le.proofs.Rows.{holds-index}
 use Rattle.form.specs.Form.{bodySize}
 use Rattle.form.specs.Stored.{Stored, graphOf, formatOf}
-use Rattle.form.proofs.Answers.{list-refused}
-use Rattle.form.proofs.Stored.{stored, unread, stored-rows}
-use Rattle.write.proofs.Calls.{graph-unread, graph-stopped}
+use Rattle.form.proofs.Answers.{passed-read, passed-on}
+use Rattle.form.proofs.Stored.{unread, stored-rows, stored-bytes}
+use Rattle.write.proofs.Calls.{graph-unread, graph-stopped, Ends, graph-ends}
+use Rattle.form.proofs.Listed.{Given, ids-given, ids-refused}
 use Rattle.hypergraph.specs.Lent.{lent}
 use Rattle.hypergraph.proofs.Bodies.{new-edge-sizes}
-use Rattle.hypergraph.proofs.Calls.{Ends, graph-ends, graph-over, width, passed-read, passed-on, new-edge-sources, new-edge-targets, new-edge-next}
-use Rattle.hypergraph.proofs.Listed.{Given, ids-given}
+use Rattle.hypergraph.proofs.Calls.{graph-over, first-stops, second-stops, both-go, new-edge-lists}
 use Rattle.hypergraph.proofs.new_edge.Statement.{statement}
 use Rattle.hypergraph.proofs.new_edge.Tie as tie
 
 -- the form that was read
 form : (c : tie.After-known-told) → Stored (now (c .before .before .before .before .before .before .before .before .args .src)) (c .before .graph .given .0 .0)
-form c =
-    let b = now (c .before .before .before .before .before .before .before .before .args .src) in
-    stored b (c .before .before .before .read .result) (c .before .before .before .read .ensures)
-    (below-each 256 b (λ i l. omega (arith, c .before .before .before .before .before .before .before .shared-slice-known .given i)))
-    (c .before .graph .given .0 .0) (c .before .graph .given .1)
+form c = stored-bytes (c .before .before .before .read .ensures) (c .before .before .before .before .before .before .before .shared-slice-known .given) (c .before .graph .given .1)
 
 -- the lists in the call
 sources : (c : tie.After-known-told2) → Given
     (idList (formatOf (now (c .before .before .before .before .before .before .before .before .before .before .before .before .args .src))) (c .before .before .before .before .before .graph .given .0 .0 .nodes) (now (c .before .before .before .before .before .before .before .before .before .before .before .before .args .sources))) (now (c .before .before .before .before .before .before .before .before .before .before .before .before .args .sources)) (c .before .before .before .before .before .graph .given .0 .0 .width) (c .before .from .given .0 .0)
-sources c =
-    let s = form (c .before .before .before .before) in
-    ids-given _ (c .before .before .before .id-list .result) _ (c .before .from .given .1) (formatOf (now (c .before .before .before .before .before .before .before .before .before .before .before .before .args .src)))
-    (width s) (stored-rows s .low .width) _ (c .before .before .before .id-list .ensures _ (width (form (c .before .before .before .before))))
+sources c = ids-given (form (c .before .before .before .before)) _ _ (c .before .before .before .id-list .result) (c .before .before .before .id-list .ensures) _ (c .before .from .given .1)
 
 targets : (c : tie.After-known-told3) → Given
     (idList (formatOf (now (c .before .before .before .before .before .before .before .before .before .before .before .before .before .before .before .before .args .src))) (c .before .before .before .before .before .before .before .before .before .graph .given .0 .0 .nodes) (now (c .before .before .before .before .before .before .before .before .before .before .before .before .before .before .before .before .args .targets))) (now (c .before .before .before .before .before .before .before .before .before .before .before .before .before .before .before .before .args .targets)) (c .before .before .before .before .before .before .before .before .before .graph .given .0 .0 .width) (c .before .to .given .0 .0)
-targets c =
-    let s = form (c .before .before .before .before .before .before .before .before) in
-    ids-given _ (c .before .before .before .id-list2 .result) _ (c .before .to .given .1) (formatOf (now (c .before .before .before .before .before .before .before .before .before .before .before .before .before .before .before .before .args .src)))
-    (width s) (stored-rows s .low .width) _ (c .before .before .before .id-list2 .ensures _ (width (form (c .before .before .before .before .before .before .before .before))))
+targets c = ids-given (form (c .before .before .before .before .before .before .before .before)) _ _ (c .before .before .before .id-list2 .result) (c .before .before .before .id-list2 .ensures) _ (c .before .to .given .1)
 
 -- they are not so long that sums wrap
 short : (c : tie.After-known-told3) → c .before .before .before .before .before .from .given .0 .0 + c .before .to .given .0 .0 < 2 ^ 63
@@ -62,7 +51,7 @@ ends c =
     let q = targets (c .before .before .before .before .before) in
     graph-ends (now (a .out)) _ _ (c .before .sized .ensures ∙ new-edge-sizes s (a .label) _ _ _ _ (p .many) (q .many)) (c .result-size .ensures)
     (now (a .src)) (λ f. newEdgeStep f (a .label) (now (a .sources)) (now (a .targets))) s
-    (new-edge-next s (a .label) (now (a .sources)) (now (a .targets)) (p .answers) (q .answers))
+    (both-go _ _ _ _ (new-edge-lists s (a .label) (now (a .sources)) (now (a .targets))) (p .answers) (q .answers))
 
 returns : tie.Need-returns
 returns c =
@@ -79,8 +68,8 @@ returns-2 c =
     let a = c .before .before .before .before .before .before .before .before .before .before .before .before .args in
     let s = form (c .before .before .before .before) in
     graph-stopped (now (a .src)) (λ f. newEdgeStep f (a .label) (now (a .sources)) (now (a .targets))) (now (a .out)) s _
-    (new-edge-sources s (a .label) (now (a .sources)) (now (a .targets))
-    (list-refused _ _ (c .before .before .before .id-list .ensures _ (width (form (c .before .before .before .before)))) _ (passed-on (c .before .enum-told2 .given .1) (c .refusal2 .ensures))))
+    (first-stops _ _ _ _ (new-edge-lists s (a .label) (now (a .sources)) (now (a .targets)))
+    (ids-refused s _ _ _ (c .before .before .before .id-list .ensures) _ (passed-on (c .before .enum-told2 .given .1) (c .refusal2 .ensures))))
 
 id-list-requires-2 : tie.Need-id-list-requires-2
 id-list-requires-2 c κs = stored-rows (form (c .before .before .before .before)) .low .width
@@ -90,8 +79,8 @@ returns-3 c =
     let a = c .before .before .before .before .before .before .before .before .before .before .before .before .before .before .before .before .args in
     let s = form (c .before .before .before .before .before .before .before .before) in
     graph-stopped (now (a .src)) (λ f. newEdgeStep f (a .label) (now (a .sources)) (now (a .targets))) (now (a .out)) s _
-    (new-edge-targets s (a .label) (now (a .sources)) (now (a .targets)) (sources (c .before .before .before .before) .answers)
-    (list-refused _ _ (c .before .before .before .id-list2 .ensures _ (width (form (c .before .before .before .before .before .before .before .before)))) _ (passed-on (c .before .enum-told3 .given .1) (c .refusal3 .ensures))))
+    (second-stops _ _ _ _ (new-edge-lists s (a .label) (now (a .sources)) (now (a .targets))) (sources (c .before .before .before .before) .answers)
+    (ids-refused s _ _ _ (c .before .before .before .id-list2 .ensures) _ (passed-on (c .before .enum-told3 .given .1) (c .refusal3 .ensures))))
 
 add-new : tie.Need-add-new
 add-new c = omega (arith, short c)
@@ -103,7 +92,7 @@ returns-4 c =
     let p = sources (c .before .before .before .before .before) in
     let q = targets (c .before) in
     graph-over (now (a .src)) (λ f. newEdgeStep f (a .label) (now (a .sources)) (now (a .targets))) (now (a .out)) s _
-    (new-edge-next s (a .label) (now (a .sources)) (now (a .targets)) (p .answers) (q .answers))
+    (both-go _ _ _ _ (new-edge-lists s (a .label) (now (a .sources)) (now (a .targets))) (p .answers) (q .answers))
     (omega (arith, ap (λ y. y .ports) (new-edge-sizes s (a .label) (lent (now (a .sources)) (c .before .before .before .before .before .before .before .before .before .before .graph .given .0 .0 .width) (c .before .before .before .before .before .before .from .given .0 .0)) (lent (now (a .targets)) (c .before .before .before .before .before .before .before .before .before .before .graph .given .0 .0 .width) (c .before .before .to .given .0 .0)) _ _ (p .many) (q .many)), c .if1 .taken))
 
 add-sized : tie.Need-add-sized

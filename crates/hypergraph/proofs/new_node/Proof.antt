@@ -8,22 +8,18 @@ use borrow.Author.Needs.{needs}
 use Rattle.graph.specs.Build.{newNode}
 use Rattle.graph.specs.Calls.{newNodeCall, newNodeStep}
 use Rattle.form.specs.Stored.{Stored, graphOf}
-use Rattle.form.proofs.Stored.{stored, unread, stored-rows}
-use Rattle.le.proofs.Numbers.{below-each}
+use Rattle.form.proofs.Stored.{unread, stored-rows, stored-bytes}
 use Rattle.form.specs.Form.{bodySize}
-use Rattle.write.proofs.Calls.{graph-unread}
+use Rattle.write.proofs.Calls.{graph-unread, Ends, graph-ends}
+use Rattle.form.proofs.Answers.{passed-read}
 use Rattle.hypergraph.proofs.Bodies.{new-node-sizes}
-use Rattle.hypergraph.proofs.Calls.{Ends, graph-ends, passed-read, new-node-next}
+use Rattle.hypergraph.proofs.Calls.{new-node-next}
 use Rattle.hypergraph.proofs.new_node.Statement.{statement}
 use Rattle.hypergraph.proofs.new_node.Tie as tie
 
 -- the form that was read
 form : (c : tie.After-known-told) → Stored (now (c .before .before .before .before .before .before .args .src)) (c .before .graph .given .0 .0)
-form c =
-    let b = now (c .before .before .before .before .before .before .args .src) in
-    stored b (c .before .before .before .read .result) (c .before .before .before .read .ensures)
-    (below-each 256 b (λ i l. omega (arith, c .before .before .before .before .before .shared-slice-known .given i)))
-    (c .before .graph .given .0 .0) (c .before .graph .given .1)
+form c = stored-bytes (c .before .before .before .read .ensures) (c .before .before .before .before .before .shared-slice-known .given) (c .before .graph .given .1)
 
 ends : (c : tie.After-result-size) → Ends (newNodeCall (now (c .before .before .before .before .before .before .before .before .before .args .src)) (c .before .before .before .before .before .before .before .before .before .args .label) (length (now (c .before .before .before .before .before .before .before .before .before .args .out)))) (now (c .before .before .before .before .before .before .before .before .before .args .out))
     (c .before .sized .result) (c .result-size .result) (newNode (c .before .before .before .before .before .before .before .before .before .args .label) (graphOf (now (c .before .before .before .before .before .before .before .before .before .args .src)))) (c .before .before .before .before .graph .given .0 .0 .nodes)

@@ -9,27 +9,22 @@ use lib.ListN.{length}
 use borrow.Author.Needs.{needs}
 use Rattle.graph.specs.Build.{newOperation}
 use Rattle.graph.specs.Calls.{newOperationCall, newOperationStep, labelList}
-use Rattle.le.proofs.Numbers.{below-each}
 use Rattle.le.proofs.Rows.{holds-index}
 use Rattle.form.specs.Form.{bodySize}
 use Rattle.form.specs.Stored.{Stored, graphOf}
-use Rattle.form.proofs.Answers.{list-refused}
-use Rattle.form.proofs.Stored.{stored, unread, stored-rows}
-use Rattle.write.proofs.Calls.{graph-unread, graph-stopped}
+use Rattle.form.proofs.Answers.{list-refused, passed-read, passed-on}
+use Rattle.form.proofs.Stored.{unread, stored-rows, stored-bytes}
+use Rattle.write.proofs.Calls.{graph-unread, graph-stopped, Ends, graph-ends}
+use Rattle.form.proofs.Listed.{Given, labels-given}
 use Rattle.hypergraph.specs.Lent.{lent}
 use Rattle.hypergraph.proofs.Bodies.{new-operation-sizes}
-use Rattle.hypergraph.proofs.Calls.{Ends, graph-ends, passed-read, passed-on, new-operation-sources, new-operation-targets, new-operation-next}
-use Rattle.hypergraph.proofs.Listed.{Given, labels-given}
+use Rattle.hypergraph.proofs.Calls.{first-stops, second-stops, both-go, new-operation-lists}
 use Rattle.hypergraph.proofs.new_operation.Statement.{statement}
 use Rattle.hypergraph.proofs.new_operation.Tie as tie
 
 -- the form that was read
 form : (c : tie.After-known-told) → Stored (now (c .before .before .before .before .before .before .before .before .args .src)) (c .before .graph .given .0 .0)
-form c =
-    let b = now (c .before .before .before .before .before .before .before .before .args .src) in
-    stored b (c .before .before .before .read .result) (c .before .before .before .read .ensures)
-    (below-each 256 b (λ i l. omega (arith, c .before .before .before .before .before .before .before .shared-slice-known .given i)))
-    (c .before .graph .given .0 .0) (c .before .graph .given .1)
+form c = stored-bytes (c .before .before .before .read .ensures) (c .before .before .before .before .before .before .before .shared-slice-known .given) (c .before .graph .given .1)
 
 -- the lists in the call
 sources : (c : tie.After-known-told2) → Given
@@ -59,7 +54,7 @@ ends c =
     let q = targets (c .before .before .before .before .before) in
     graph-ends (now (a .out)) _ _ (c .before .sized .ensures ∙ new-operation-sizes s (a .label) _ _ _ _ (p .many) (q .many)) (c .result-size .ensures)
     (now (a .src)) (λ f. newOperationStep (a .label) (now (a .sources)) (now (a .targets))) s
-    (new-operation-next s (a .label) (now (a .sources)) (now (a .targets)) (p .answers) (q .answers))
+    (both-go _ _ _ _ (new-operation-lists s (a .label) (now (a .sources)) (now (a .targets))) (p .answers) (q .answers))
 
 returns : tie.Need-returns
 returns c =
@@ -73,7 +68,7 @@ returns-2 c =
     let a = c .before .before .before .before .before .before .before .before .before .before .before .before .args in
     let s = form (c .before .before .before .before) in
     graph-stopped (now (a .src)) (λ f. newOperationStep (a .label) (now (a .sources)) (now (a .targets))) (now (a .out)) s _
-    (new-operation-sources s (a .label) (now (a .sources)) (now (a .targets))
+    (first-stops _ _ _ _ (new-operation-lists s (a .label) (now (a .sources)) (now (a .targets)))
     (list-refused _ _ (c .before .before .before .label-list .ensures) _ (passed-on (c .before .enum-told2 .given .1) (c .refusal2 .ensures))))
 
 returns-3 : tie.Need-returns-3
@@ -81,7 +76,7 @@ returns-3 c =
     let a = c .before .before .before .before .before .before .before .before .before .before .before .before .before .before .before .before .args in
     let s = form (c .before .before .before .before .before .before .before .before) in
     graph-stopped (now (a .src)) (λ f. newOperationStep (a .label) (now (a .sources)) (now (a .targets))) (now (a .out)) s _
-    (new-operation-targets s (a .label) (now (a .sources)) (now (a .targets)) (sources (c .before .before .before .before) .answers)
+    (second-stops _ _ _ _ (new-operation-lists s (a .label) (now (a .sources)) (now (a .targets))) (sources (c .before .before .before .before) .answers)
     (list-refused _ _ (c .before .before .before .label-list2 .ensures) _ (passed-on (c .before .enum-told3 .given .1) (c .refusal3 .ensures))))
 
 add-new : tie.Need-add-new

@@ -5,7 +5,7 @@ use mathlib.Core.Path.{_∙_, refl, sym, ap}
 use Prim.Native.Nat.{ℕ}
 use native.Mathlib.Omega.{arith}
 use denote.Ref.{now}
-use lib.ListN.{length-append}
+use lib.ListN.{length-append, length-map}
 use borrow.Author.Needs.{needs}
 use Rattle.le.specs.Rows.{span}
 use Rattle.graph.specs.Form.{edgeRow}
@@ -14,8 +14,9 @@ use Rattle.graph.specs.Lists.{joined}
 use Rattle.form.specs.Form.{listsFrom}
 use Rattle.form.specs.Stored.{graphOf}
 use Rattle.write.specs.Write.{drawn}
+use Rattle.form.proofs.Stored.{edges-are}
 use Rattle.hypergraph.proofs.Drawn.{more-labels, more-numbers}
-use Rattle.hypergraph.proofs.Held.{held, edges-are, edge-rows, edge-rows-are}
+use Rattle.hypergraph.proofs.Held.{held, edge-rows, edge-rows-are}
 use Rattle.hypergraph.proofs.put_edges.Statement.{statement}
 use Rattle.hypergraph.proofs.put_edges.Tie as tie
 
@@ -66,7 +67,7 @@ returns c =
     let names = map (λ (e : Edge). e .label) (g .edges) in
     let new = a .label ∷ [] in
     let rows = joined edgeRow (g .edges) in
-    let n = edges-are r in
+    let n = length-map (g .edges) (λ (e : Edge). e .label) ∙ edges-are r in
     let all = labels ++ (names ++ new) in
     let one = more-labels old y labels names is (c .before .before .before .before .before .before .before .before .before .before .before .before .before .before .before .before .before .before .before .before .copy-numbers .ensures) (c .before .before .before .before .before .before .before .before .before .before .before .before .before .before .before .before .before .before .before .before .before .before .before .label-row .ensures) (sym long)
     ((λ i. span (now (a .src)) (c .before .before .before .before .before .before .before .before .before .before .before .before .before .before .before .before .before .before .before .before .before .label-row2 .ensures i) (z .nodes) (z .edges)) ∙ r .edge-labels) in

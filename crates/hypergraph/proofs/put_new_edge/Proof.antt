@@ -12,10 +12,11 @@ use Rattle.graph.specs.Graph.{Edge}
 use Rattle.graph.specs.Lists.{joined}
 use Rattle.form.specs.Stored.{graphOf}
 use Rattle.write.specs.Write.{drawn}
+use Rattle.form.proofs.Stored.{nodes-are}
 use Rattle.hypergraph.specs.Lent.{lent}
 use Rattle.hypergraph.proofs.Bodies.{edge-drawn}
 use Rattle.write.proofs.Results.{room-same}
-use Rattle.hypergraph.proofs.Held.{held, nodes-are, lists, edge-rows-are}
+use Rattle.hypergraph.proofs.Held.{held, lists, edge-rows-are}
 use Rattle.hypergraph.proofs.put_new_edge.Statement.{statement}
 use Rattle.hypergraph.proofs.put_new_edge.Tie as tie
 

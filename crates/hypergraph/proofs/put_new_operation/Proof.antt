@@ -15,11 +15,12 @@ use Rattle.graph.specs.Lists.{joined, range}
 use Rattle.graph.proofs.Lists.{length-range, range-add}
 use Rattle.form.specs.Stored.{graphOf}
 use Rattle.write.specs.Write.{drawn}
+use Rattle.form.proofs.Stored.{nodes-are}
 use Rattle.hypergraph.specs.Lent.{lent}
 use Rattle.hypergraph.proofs.Bodies.{edge-drawn}
 use Rattle.hypergraph.proofs.Drawn.{more-labels}
 use Rattle.write.proofs.Results.{room-same}
-use Rattle.hypergraph.proofs.Held.{held, nodes-are, lists, edge-rows-are}
+use Rattle.hypergraph.proofs.Held.{held, lists, edge-rows-are}
 use Rattle.hypergraph.proofs.put_new_operation.Statement.{statement}
 use Rattle.hypergraph.proofs.put_new_operation.Tie as tie
 

@@ -10,10 +10,10 @@ use borrow.Author.Needs.{needs}
 use Rattle.le.specs.Rows.{span}
 use Rattle.graph.specs.Graph.{Edge}
 use Rattle.form.specs.Stored.{graphOf}
-use Rattle.form.proofs.Stored.{stored-rows}
+use Rattle.form.proofs.Stored.{stored-rows, nodes-are}
 use Rattle.write.specs.Write.{drawn}
 use Rattle.hypergraph.proofs.Drawn.{more-labels}
-use Rattle.hypergraph.proofs.Held.{held, nodes-are}
+use Rattle.hypergraph.proofs.Held.{held}
 use Rattle.hypergraph.proofs.put_node_labels.Statement.{statement}
 use Rattle.hypergraph.proofs.put_node_labels.Tie as tie
 

@@ -10,23 +10,18 @@ use Rattle.graph.specs.Build.{unify}
 use Rattle.graph.specs.Calls.{unifyCall, unifyStep, known}
 use Rattle.graph.proofs.Answers.{known-below}
 use Rattle.form.specs.Stored.{Stored, graphOf}
-use Rattle.form.proofs.Stored.{stored, unread, stored-rows}
-use Rattle.le.proofs.Numbers.{below-each}
+use Rattle.form.proofs.Stored.{unread, stored-rows, stored-bytes}
 use Rattle.form.specs.Form.{bodySize}
-use Rattle.form.proofs.Answers.{number-refused, number-answered}
-use Rattle.write.proofs.Calls.{graph-unread, graph-stopped}
+use Rattle.form.proofs.Answers.{number-refused, number-answered, passed-read, passed-on}
+use Rattle.write.proofs.Calls.{graph-unread, graph-stopped, Ends, graph-ends}
 use Rattle.hypergraph.proofs.Bodies.{unify-sizes}
-use Rattle.hypergraph.proofs.Calls.{Ends, graph-ends, passed-read, passed-on, unify-first, unify-second, unify-next}
+use Rattle.hypergraph.proofs.Calls.{first-stops, second-stops, both-go, unify-ids}
 use Rattle.hypergraph.proofs.unify.Statement.{statement}
 use Rattle.hypergraph.proofs.unify.Tie as tie
 
 -- the form that was read
 form : (c : tie.After-known-told) → Stored (now (c .before .before .before .before .before .before .args .src)) (c .before .graph .given .0 .0)
-form c =
-    let b = now (c .before .before .before .before .before .before .args .src) in
-    stored b (c .before .before .before .read .result) (c .before .before .before .read .ensures)
-    (below-each 256 b (λ i l. omega (arith, c .before .before .before .before .before .shared-slice-known .given i)))
-    (c .before .graph .given .0 .0) (c .before .graph .given .1)
+form c = stored-bytes (c .before .before .before .read .ensures) (c .before .before .before .before .before .shared-slice-known .given) (c .before .graph .given .1)
 
 -- the two ids
 first : (c : tie.After-known-told2) → known (c .before .before .before .before .before .graph .given .0 .0 .nodes) (c .before .before .before .before .before .before .before .before .before .before .args .v) ≡ answered (c .before .first .given .0 .0)
@@ -42,7 +37,7 @@ ends c =
     let s = form (c .before .before .before .before .before .before .before .before .before .before .before) in
     graph-ends (now (a .out)) _ _ (c .before .sized .ensures ∙ unify-sizes s (c .before .before .before .before .before .before .before .before .first .given .0 .0) (c .before .before .before .before .second .given .0 .0)) (c .result-size .ensures)
     (now (a .src)) (λ f. unifyStep (a .v) (a .w)) s
-    (unify-next s (a .v) (a .w) (first (c .before .before .before .before .before .before .before)) (second (c .before .before .before)))
+    (both-go _ _ _ _ (unify-ids s (a .v) (a .w)) (first (c .before .before .before .before .before .before .before)) (second (c .before .before .before)))
 
 returns : tie.Need-returns
 returns c =
@@ -56,7 +51,7 @@ returns-2 c =
     let a = c .before .before .before .before .before .before .before .before .before .before .args in
     let s = form (c .before .before .before .before) in
     graph-stopped (now (a .src)) (λ f. unifyStep (a .v) (a .w)) (now (a .out)) s _
-    (unify-first s (a .v) (a .w)
+    (first-stops _ _ _ _ (unify-ids s (a .v) (a .w))
     (number-refused _ _ (c .before .before .before .known .ensures) _ (passed-on (c .before .enum-told2 .given .1) (c .refusal2 .ensures))))
 
 returns-3 : tie.Need-returns-3
@@ -64,7 +59,7 @@ returns-3 c =
     let a = c .before .before .before .before .before .before .before .before .before .before .before .before .before .before .args in
     let s = form (c .before .before .before .before .before .before .before .before) in
     graph-stopped (now (a .src)) (λ f. unifyStep (a .v) (a .w)) (now (a .out)) s _
-    (unify-second s (a .v) (a .w) (first (c .before .before .before .before))
+    (second-stops _ _ _ _ (unify-ids s (a .v) (a .w)) (first (c .before .before .before .before))
     (number-refused _ _ (c .before .before .before .known2 .ensures) _ (passed-on (c .before .enum-told3 .given .1) (c .refusal3 .ensures))))
 
 add-sized : tie.Need-add-sized

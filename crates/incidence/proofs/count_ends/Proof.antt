@@ -4,6 +4,7 @@ use mathlib.Core.List.{List}
 use mathlib.Core.Path.{_≡_, refl, ap, _∙_, subst}
 use Prim.Native.Nat.{ℕ, _≤_, _<_, _+_, _-_}
 use native.Mathlib.Nat.{le-antisymm}
+use borrow.Author.Needs.{needs}
 use native.Mathlib.Omega.{arith}
 use lib.ListN.{length, replicate, getD}
 use Rattle.le.specs.Le.{words}
@@ -33,22 +34,10 @@ v-low c =
     let low : c .word .result < a .n = omega (arith, c .word .ensures, is, same, c .before .before .before .before .before .before .before .before .before .pre .1 (l .k) (omega arith)) in
     (low, omega (arith, counting-few W (words (l .room)) (a .near) (a .degree) (a .n) (l .k) (l .inv .1) long (omega arith) (c .word .result) low))
 
-put-same-requires : tie.Need-put-same-requires Inv-loop μ-loop
-put-same-requires c κs = omega arith
-
 loop-holds : tie.Need-loop-holds Inv-loop μ-loop
 loop-holds c = let a = c .before .before .before .before .before .args in
     let w = c .before .before .put-same in
     (omega arith, counting-start (words (a .room .now)) (words (w .last .0)) (a .near) (a .degree) (a .n) (w .ensures) (omega (arith, length-words (a .room .now))), refl)
-
-add-word : tie.Need-add-word Inv-loop μ-loop
-add-word c = omega arith
-
-word-requires : tie.Need-word-requires Inv-loop μ-loop
-word-requires c κs = omega arith
-
-cast-v : tie.Need-cast-v Inv-loop μ-loop
-cast-v c = omega arith
 
 add-bump : tie.Need-add-bump Inv-loop μ-loop
 add-bump c = omega (arith, v-low (c .before) .0)
@@ -59,12 +48,6 @@ bump-requires c κs = let a = c .before .before .before .before .before .before 
     let w = c .before .before .before .before .before .before .before .put-same in
     let h = v-low (c .before) in
     (omega (arith, h .0), omega (arith, h .1))
-
-add-k : tie.Need-add-k Inv-loop μ-loop
-add-k c = omega arith
-
-loop-less : tie.Need-loop-less Inv-loop μ-loop
-loop-less c = omega arith
 
 loop-again : tie.Need-loop-again Inv-loop μ-loop
 loop-again c = let a = c .before .before .before .before .before .before .before .before .before .before .before .before .before .args in
@@ -94,15 +77,15 @@ count-ends-spec =
     (tie.spec
     Inv-loop
     μ-loop
-    put-same-requires
+    (λ c κs. search needs)
     loop-holds
-    add-word
-    word-requires
-    cast-v
+    (λ c. search needs)
+    (λ c κs. search needs)
+    (λ c. search needs)
     add-bump
     bump-requires
-    add-k
-    loop-less
+    (λ c. search needs)
+    (λ c. search needs)
     loop-again
     same-length
     returns)

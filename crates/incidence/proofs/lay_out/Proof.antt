@@ -3,6 +3,7 @@
 use mathlib.Core.Path.{_≡_, refl, _∙_}
 use Prim.Native.Nat.{_≤_, _+_, _-_}
 use native.Mathlib.Nat.{le-antisymm}
+use borrow.Author.Needs.{needs}
 use native.Mathlib.Omega.{arith}
 use lib.ListN.{length}
 use Rattle.le.specs.Le.{words}
@@ -20,27 +21,6 @@ abbrev μ-loop : tie.MeasureT-loop
 loop-holds : tie.Need-loop-holds Inv-loop μ-loop
 loop-holds c = (omega arith, laying-start _ _ _ _, refl)
 
-add-word : tie.Need-add-word Inv-loop μ-loop
-add-word c = omega arith
-
-word-requires : tie.Need-word-requires Inv-loop μ-loop
-word-requires c κs = omega arith
-
-add-set-word : tie.Need-add-set-word Inv-loop μ-loop
-add-set-word c = omega arith
-
-set-word-requires : tie.Need-set-word-requires Inv-loop μ-loop
-set-word-requires c κs = omega arith
-
-add-set-word-2 : tie.Need-add-set-word-2 Inv-loop μ-loop
-add-set-word-2 c = omega arith
-
-add-set-word-3 : tie.Need-add-set-word-3 Inv-loop μ-loop
-add-set-word-3 c = omega arith
-
-set-word-requires-2 : tie.Need-set-word-requires-2 Inv-loop μ-loop
-set-word-requires-2 c κs = omega arith
-
 add-sum : tie.Need-add-sum Inv-loop μ-loop
 add-sum c = let a = c .before .before .before .before .before .before .before .before .before .before .before .before .before .args in
     let l = c .before .before .before .before .before .before .before .before .before .before .before .loop in
@@ -54,12 +34,6 @@ add-sum c = let a = c .before .before .before .before .before .before .before .b
       laying-read W X (a .degree) (a .lists) (a .n) (l .v) (l .sum) (l .inv .1) (omega arith) (omega arith) (omega arith) long,
       c .before .before .before .before .before .before .before .before .before .before .before .before .before .pre .1 (l .v) (omega arith),
     )
-
-add-v : tie.Need-add-v Inv-loop μ-loop
-add-v c = omega arith
-
-loop-less : tie.Need-loop-less Inv-loop μ-loop
-loop-less c = omega arith
 
 loop-again : tie.Need-loop-again Inv-loop μ-loop
 loop-again c = let a = c .before .before .before .before .before .before .before .before .before .before .before .before .before .args in
@@ -86,16 +60,16 @@ lay-out-spec =
     Inv-loop
     μ-loop
     loop-holds
-    add-word
-    word-requires
-    add-set-word
-    set-word-requires
-    add-set-word-2
-    add-set-word-3
-    set-word-requires-2
+    (λ c. search needs)
+    (λ c κs. search needs)
+    (λ c. search needs)
+    (λ c κs. search needs)
+    (λ c. search needs)
+    (λ c. search needs)
+    (λ c κs. search needs)
     add-sum
-    add-v
-    loop-less
+    (λ c. search needs)
+    (λ c. search needs)
     loop-again
     same-length
     returns)

@@ -14,44 +14,8 @@ use Rattle.incidence.proofs.Building.{appended}
 use Rattle.incidence.proofs.put_edge.Statement.{statement}
 use Rattle.incidence.proofs.put_edge.Tie as tie
 
-cast-v : tie.Need-cast-v
-cast-v c = search needs
-
-add-put-ids : tie.Need-add-put-ids
-add-put-ids c = search needs
-
-put-ids-requires : tie.Need-put-ids-requires
-put-ids-requires c κs = search needs
-
-add-put-same : tie.Need-add-put-same
-add-put-same c = search needs
-
-put-same-requires : tie.Need-put-same-requires
-put-same-requires c κs = search needs
-
-add-put-same-2 : tie.Need-add-put-same-2
-add-put-same-2 c = search needs
-
-add-put-same-3 : tie.Need-add-put-same-3
-add-put-same-3 c = search needs
-
-put-same-requires-2 : tie.Need-put-same-requires-2
-put-same-requires-2 c κs = search needs
-
-add-put-ids-2 : tie.Need-add-put-ids-2
-add-put-ids-2 c = search needs
-
-add-put-ids-3 : tie.Need-add-put-ids-3
-add-put-ids-3 c = search needs
-
 add-put-ids-4 : tie.Need-add-put-ids-4
 add-put-ids-4 c = omega (arith, holds-index (c .before .before .before .before .before .before .before .before .before .before .before .before .before .before .before .before .before .before .pre .3))
-
-put-ids-requires-2 : tie.Need-put-ids-requires-2
-put-ids-requires-2 c κs = search needs
-
-same-length : tie.Need-same-length
-same-length c = search needs
 
 returns : tie.Need-returns
 returns c =
@@ -74,17 +38,17 @@ pub put-edge-spec : {M : Type 1} → statement M
 put-edge-spec =
     tie.close
     (tie.spec
-    cast-v
-    add-put-ids
-    put-ids-requires
-    add-put-same
-    put-same-requires
-    add-put-same-2
-    add-put-same-3
-    put-same-requires-2
-    add-put-ids-2
-    add-put-ids-3
+    (λ c. search needs)
+    (λ c. search needs)
+    (λ c κs. search needs)
+    (λ c. search needs)
+    (λ c κs. search needs)
+    (λ c. search needs)
+    (λ c. search needs)
+    (λ c κs. search needs)
+    (λ c. search needs)
+    (λ c. search needs)
     add-put-ids-4
-    put-ids-requires-2
-    same-length
+    (λ c κs. search needs)
+    (λ c. search needs)
     returns)

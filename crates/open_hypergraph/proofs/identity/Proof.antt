@@ -8,11 +8,10 @@ use lib.ListN.{length}
 use borrow.Author.Needs.{needs}
 use Rattle.graph.specs.Build.{identity}
 use Rattle.graph.specs.Calls.{labelList, identityStep, identityCall}
-use Rattle.form.proofs.Answers.{list-refused}
-use Rattle.write.proofs.Calls.{nothing-stopped-gives}
+use Rattle.form.proofs.Answers.{list-refused, passed-on}
+use Rattle.write.proofs.Calls.{nothing-stopped-gives, Ends, nothing-ends}
 use Rattle.hypergraph.specs.Lent.{lent}
-use Rattle.hypergraph.proofs.Calls.{Ends, nothing-ends, passed-on}
-use Rattle.hypergraph.proofs.Listed.{Given, labels-given}
+use Rattle.form.proofs.Listed.{Given, labels-given}
 use Rattle.open_hypergraph.proofs.Forms.{identity-stopped, identity-next, identity-sizes}
 use Rattle.open_hypergraph.proofs.identity.Statement.{statement}
 use Rattle.open_hypergraph.proofs.identity.Tie as tie

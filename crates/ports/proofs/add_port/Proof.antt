@@ -6,14 +6,12 @@ use denote.Ref.{now}
 use lib.ListN.{length}
 use borrow.Author.Needs.{needs}
 use Rattle.form.specs.Stored.{Stored, graphOf}
-use Rattle.form.proofs.Answers.{number-refused, number-answered}
-use Rattle.form.proofs.Stored.{unread, stored, stored-rows}
+use Rattle.form.proofs.Answers.{number-refused, number-answered, passed-on, passed-read}
+use Rattle.form.proofs.Stored.{unread, stored-rows, stored-bytes}
 use Rattle.graph.specs.Answer.{answered}
 use Rattle.graph.specs.Calls.{onGraph, known}
 use Rattle.graph.proofs.Answers.{known-below}
-use Rattle.le.proofs.Numbers.{below-each}
-use Rattle.write.proofs.Calls.{graph-unread, graph-stopped}
-use Rattle.hypergraph.proofs.Calls.{Ends, graph-ends, passed-on, passed-read}
+use Rattle.write.proofs.Calls.{graph-unread, graph-stopped, Ends, graph-ends}
 use Rattle.ports.specs.Ports.{portStep, added}
 use Rattle.ports.proofs.Bodies.{added-sizes, port-stopped, port-next}
 use Rattle.ports.proofs.add_port.Statement.{statement}
@@ -21,10 +19,7 @@ use Rattle.ports.proofs.add_port.Tie as tie
 
 -- the form that was read
 form : (c : tie.After-known-told) → Stored (now (c .before .before .before .before .before .before .args .src)) (c .before .graph .given .0 .0)
-form c =
-    let b = now (c .before .before .before .before .before .before .args .src) in
-    let r = c .before .before .before .read in
-    stored b (r .result) (r .ensures) (below-each 256 b (λ i l. omega (arith, c .before .before .before .before .before .shared-slice-known .given i))) _ (c .before .graph .given .1)
+form c = stored-bytes (c .before .before .before .read .ensures) (c .before .before .before .before .before .shared-slice-known .given) (c .before .graph .given .1)
 
 -- the edge that was named
 named : (c : tie.After-known-told2) → known (c .before .before .before .before .before .graph .given .0 .0 .edges) (c .before .before .before .before .before .before .before .before .before .before .args .edge) ≡ answered (c .before .one .given .0 .0)

@@ -7,26 +7,8 @@ use Rattle.queue.proofs.Order.{before-refl, told-ahead, told-not}
 use Rattle.queue.proofs.first_below.Statement.{statement}
 use Rattle.queue.proofs.first_below.Tie as tie
 
-mul-left : tie.Need-mul-left
-mul-left c = search needs
-
-add-left : tie.Need-add-left
-add-left c = search needs
-
-add-right : tie.Need-add-right
-add-right c = search needs
-
 returns : tie.Need-returns
 returns c = first-below _ (omega arith) (omega arith) (omega arith) before-refl (λ l. absurd (omega arith))
-
-candidate-at-requires : tie.Need-candidate-at-requires
-candidate-at-requires c κs = search needs
-
-candidate-at-requires-2 : tie.Need-candidate-at-requires-2
-candidate-at-requires-2 c κs = search needs
-
-precedes-requires : tie.Need-precedes-requires
-precedes-requires c κs = search needs
 
 returns-2 : tie.Need-returns-2
 returns-2 c = let k = c .before .before in
@@ -43,12 +25,12 @@ pub first-below-spec : {M : Type 1} → statement M
 first-below-spec =
     tie.close
     (tie.spec
-    mul-left
-    add-left
-    add-right
+    (λ c. search needs)
+    (λ c. search needs)
+    (λ c. search needs)
     returns
-    candidate-at-requires
-    candidate-at-requires-2
-    precedes-requires
+    (λ c κs. search needs)
+    (λ c κs. search needs)
+    (λ c κs. search needs)
     returns-2
     returns-3)

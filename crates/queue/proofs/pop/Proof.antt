@@ -8,30 +8,12 @@ use Rattle.queue.proofs.Entries.{put-placed}
 use Rattle.queue.proofs.pop.Statement.{statement}
 use Rattle.queue.proofs.pop.Tie as tie
 
-candidate-at-requires : tie.Need-candidate-at-requires
-candidate-at-requires c κs = search needs
-
-sub-rest : tie.Need-sub-rest
-sub-rest c = search needs
-
-same-length : tie.Need-same-length
-same-length c = search needs
-
 returns : tie.Need-returns
 returns c = popped-one (c .before .candidate-at .ensures) (omega arith) (omega arith)
-
-candidate-at-requires-2 : tie.Need-candidate-at-requires-2
-candidate-at-requires-2 c κs = search needs
 
 sift-down-requires : tie.Need-sift-down-requires
 sift-down-requires c κs =
     (omega arith, record { order = λ i h l. c .before .before .before .before .before .before .before .pre .1 .order i h (omega arith) })
-
-put-candidate-requires : tie.Need-put-candidate-requires
-put-candidate-requires c κs = search needs
-
-same-length-2 : tie.Need-same-length-2
-same-length-2 c = search needs
 
 returns-2 : tie.Need-returns-2
 returns-2 c = let w = c .before .before in
@@ -47,12 +29,12 @@ pub pop-spec : {M : Type 1} → statement M
 pop-spec =
     tie.close
     (tie.spec
-    candidate-at-requires
-    sub-rest
-    same-length
+    (λ c κs. search needs)
+    (λ c. search needs)
+    (λ c. search needs)
     returns
-    candidate-at-requires-2
+    (λ c κs. search needs)
     sift-down-requires
-    put-candidate-requires
-    same-length-2
+    (λ c κs. search needs)
+    (λ c. search needs)
     returns-2)

@@ -6,36 +6,6 @@ use Rattle.queue.proofs.Entries.{placed-by}
 use Rattle.queue.proofs.put_candidate.Statement.{statement}
 use Rattle.queue.proofs.put_candidate.Tie as tie
 
-mul-x : tie.Need-mul-x
-mul-x c = search needs
-
-add-x : tie.Need-add-x
-add-x c = search needs
-
-set-word-requires : tie.Need-set-word-requires
-set-word-requires c κs = search needs
-
-add-set-word : tie.Need-add-set-word
-add-set-word c = search needs
-
-set-word-requires-2 : tie.Need-set-word-requires-2
-set-word-requires-2 c κs = search needs
-
-add-set-word-2 : tie.Need-add-set-word-2
-add-set-word-2 c = search needs
-
-set-word-requires-3 : tie.Need-set-word-requires-3
-set-word-requires-3 c κs = search needs
-
-add-set-word-3 : tie.Need-add-set-word-3
-add-set-word-3 c = search needs
-
-set-word-requires-4 : tie.Need-set-word-requires-4
-set-word-requires-4 c κs = search needs
-
-same-length : tie.Need-same-length
-same-length c = search needs
-
 returns : tie.Need-returns
 returns c = let w4 = c .before .before in
     let w3 = w4 .before .before .before .before in
@@ -48,14 +18,14 @@ pub put-candidate-spec : {M : Type 1} → statement M
 put-candidate-spec =
     tie.close
     (tie.spec
-    mul-x
-    add-x
-    set-word-requires
-    add-set-word
-    set-word-requires-2
-    add-set-word-2
-    set-word-requires-3
-    add-set-word-3
-    set-word-requires-4
-    same-length
+    (λ c. search needs)
+    (λ c. search needs)
+    (λ c κs. search needs)
+    (λ c. search needs)
+    (λ c κs. search needs)
+    (λ c. search needs)
+    (λ c κs. search needs)
+    (λ c. search needs)
+    (λ c κs. search needs)
+    (λ c. search needs)
     returns)

@@ -2,6 +2,7 @@
 -- Assumes nothing.
 use mathlib.Core.Path.{_≡_, refl, ap, _∙_}
 use Prim.Native.Nat.{_-_}
+use borrow.Author.Needs.{needs}
 use native.Mathlib.Omega.{arith}
 use lib.ListN.{length}
 use borrow.Author.Tests.{not-true, not-false}
@@ -24,21 +25,6 @@ abbrev μ-loop : tie.MeasureT-loop
 loop-holds : tie.Need-loop-holds Inv-loop μ-loop
 loop-holds c = (down-start (c .before .pre .0 .0) (c .before .pre .1), refl)
 
-mul-loop : tie.Need-mul-loop Inv-loop μ-loop
-mul-loop c = omega arith
-
-add-loop : tie.Need-add-loop Inv-loop μ-loop
-add-loop c = omega arith
-
-first-below-requires : tie.Need-first-below-requires Inv-loop μ-loop
-first-below-requires c κs = omega arith
-
-candidate-at-requires : tie.Need-candidate-at-requires Inv-loop μ-loop
-candidate-at-requires c κs = omega arith
-
-precedes-requires : tie.Need-precedes-requires Inv-loop μ-loop
-precedes-requires c κs = omega arith
-
 same-length : tie.Need-same-length Inv-loop μ-loop
 same-length c = c .before .before .before .before .before .before .before .loop .inv .1
 
@@ -51,12 +37,6 @@ returns c = let k = c .before .before in
           (told-not (c .before .precedes .ensures) (k .candidate-at .ensures) refl (not-true _ (c .if1 .taken)))
           (f .first-below .ensures .first j p l e);
     }
-
-put-candidate-requires : tie.Need-put-candidate-requires Inv-loop μ-loop
-put-candidate-requires c κs = omega arith
-
-loop-less : tie.Need-loop-less Inv-loop μ-loop
-loop-less c = omega arith
 
 loop-again : tie.Need-loop-again Inv-loop μ-loop
 loop-again c = let w = c .before .before in
@@ -88,15 +68,15 @@ sift-down-spec =
     Inv-loop
     μ-loop
     loop-holds
-    mul-loop
-    add-loop
-    first-below-requires
-    candidate-at-requires
-    precedes-requires
+    (λ c. search needs)
+    (λ c. search needs)
+    (λ c κs. search needs)
+    (λ c κs. search needs)
+    (λ c κs. search needs)
     same-length
     returns
-    put-candidate-requires
-    loop-less
+    (λ c κs. search needs)
+    (λ c. search needs)
     loop-again
     same-length-2
     returns-2)

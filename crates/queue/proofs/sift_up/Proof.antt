@@ -2,6 +2,7 @@
 -- Assumes nothing.
 use mathlib.Core.Path.{_≡_, refl, ap, _∙_}
 use Prim.Native.Nat.{_-_, _/_}
+use borrow.Author.Needs.{needs}
 use native.Mathlib.Omega.{arith}
 use lib.ListN.{length}
 use borrow.Author.Tests.{not-true, not-false}
@@ -24,15 +25,6 @@ abbrev μ-loop : tie.MeasureT-loop
 loop-holds : tie.Need-loop-holds Inv-loop μ-loop
 loop-holds c = (up-start (c .before .pre .1), refl)
 
-sub-parent : tie.Need-sub-parent Inv-loop μ-loop
-sub-parent c = omega arith
-
-candidate-at-requires : tie.Need-candidate-at-requires Inv-loop μ-loop
-candidate-at-requires c κs = omega arith
-
-precedes-requires : tie.Need-precedes-requires Inv-loop μ-loop
-precedes-requires c κs = omega arith
-
 same-length : tie.Need-same-length Inv-loop μ-loop
 same-length c = c .before .before .before .before .before .loop .inv .1
 
@@ -42,12 +34,6 @@ returns c = let k = c .before .before in
       rising = k .before .before .before .loop .inv .0;
       above = λ z. told-not (c .before .precedes .ensures) refl (k .candidate-at .ensures) (not-true _ (c .if1 .taken));
     }
-
-put-candidate-requires : tie.Need-put-candidate-requires Inv-loop μ-loop
-put-candidate-requires c κs = omega arith
-
-loop-less : tie.Need-loop-less Inv-loop μ-loop
-loop-less c = omega arith
 
 loop-again : tie.Need-loop-again Inv-loop μ-loop
 loop-again c = let w = c .before .before in
@@ -78,13 +64,13 @@ sift-up-spec =
     Inv-loop
     μ-loop
     loop-holds
-    sub-parent
-    candidate-at-requires
-    precedes-requires
+    (λ c. search needs)
+    (λ c κs. search needs)
+    (λ c κs. search needs)
     same-length
     returns
-    put-candidate-requires
-    loop-less
+    (λ c κs. search needs)
+    (λ c. search needs)
     loop-again
     same-length-2
     returns-2)

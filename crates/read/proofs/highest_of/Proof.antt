@@ -5,6 +5,7 @@ use mathlib.Core.List.{List, _∷_, [], _++_}
 use mathlib.Core.Path.{_≡_, refl, sym, ap, _∙_}
 use Prim.Native.Nat.{ℕ, _≤_, _<_, _-_, _+_, _*_}
 use native.Mathlib.Nat.{mul-le-mul-right}
+use borrow.Author.Needs.{needs}
 use native.Mathlib.Omega.{arith}
 use lib.Dec.{ltb}
 use denote.Ref.{now}
@@ -48,12 +49,6 @@ Inv-loop s at n width end most₀ place₀ most place = Looked s at n width most
 abbrev μ-loop : tie.MeasureT-loop
 μ-loop s at n width end most₀ place₀ most place = end - place
 
-mul-end : tie.Need-mul-end Inv-loop μ-loop
-mul-end c = omega arith
-
-add-end : tie.Need-add-end Inv-loop μ-loop
-add-end c = omega arith
-
 loop-holds : tie.Need-loop-holds Inv-loop μ-loop
 unfolding span
 loop-holds c = record { k = 0; few = omega arith; here = omega arith; found = refl }
@@ -71,9 +66,6 @@ count-at-requires : tie.Need-count-at-requires Inv-loop μ-loop
 count-at-requires c κs =
     let h = inside c in
     record { wide = c .before .before .before .pre .wide; inside = omega arith }
-
-cast-higher : tie.Need-cast-higher Inv-loop μ-loop
-cast-higher c = omega arith
 
 higher-requires : tie.Need-higher-requires Inv-loop μ-loop
 higher-requires c κs = tt
@@ -122,11 +114,11 @@ highest-of-spec =
     (tie.spec
     Inv-loop
     μ-loop
-    mul-end
-    add-end
+    (λ c. search needs)
+    (λ c. search needs)
     loop-holds
     count-at-requires
-    cast-higher
+    (λ c. search needs)
     higher-requires
     add-place
     loop-less

@@ -23,24 +23,12 @@ loop-holds c = (omega arith, begun (meant (c .before .args .f)) (now (c .before 
 read-edge-requires : tie.Need-read-edge-requires Inv-loop μ-loop
 read-edge-requires c κs = (c .before .loop .inv .1 .inside, c .before .loop .inv .1 .fits, c .before .before .before .pre .1)
 
-enum-known-step : tie.Need-enum-known-step Inv-loop μ-loop
-enum-known-step c = search needs
-
-enum-told : tie.Need-enum-told Inv-loop μ-loop
-enum-told c = search needs
-
 returns : tie.Need-returns Inv-loop μ-loop
 returns c labels n =
     let a = c .before .before .before .before .before .before .args in
     let l = c .before .before .before .before .loop in
     stopped (meant (a .f)) (now (a .s)) (a .start) (l .at) (l .ports) (l .bound) (l .i) (l .inv .1) (c .before .before .read-edge .result) (c .before .before .read-edge .ensures)
     (c .enum-told .given .0 .0) (c .enum-told .given .1) labels (omega arith)
-
-add-i : tie.Need-add-i Inv-loop μ-loop
-add-i c = omega arith
-
-loop-less : tie.Need-loop-less Inv-loop μ-loop
-loop-less c = omega arith
 
 loop-again : tie.Need-loop-again Inv-loop μ-loop
 loop-again c =
@@ -66,10 +54,10 @@ read-edges-spec =
     μ-loop
     loop-holds
     read-edge-requires
-    enum-known-step
-    enum-told
+    (λ c. search needs)
+    (λ c. search needs)
     returns
-    add-i
-    loop-less
+    (λ c. search needs)
+    (λ c. search needs)
     loop-again
     returns-2)

@@ -2,6 +2,7 @@
 -- Assumes nothing.
 use mathlib.Core.Path.{_≡_, refl, sym, ap, _∙_, subst}
 use Prim.Native.Nat.{ℕ, _≤_, _<_, _+_, _-_}
+use borrow.Author.Needs.{needs}
 use native.Mathlib.Omega.{arith}
 use lib.Dec.{T}
 use lib.ListN.{length, getD, take}
@@ -44,9 +45,6 @@ add-word c = omega (arith, small (c .before .before))
 word-requires : tie.Need-word-requires Inv-loop μ-loop
 word-requires c κs = omega (arith, small (c .before .before))
 
-cast-start : tie.Need-cast-start Inv-loop μ-loop
-cast-start c = omega arith
-
 add-word-2 : tie.Need-add-word-2 Inv-loop μ-loop
 add-word-2 c = omega (arith, small (c .before .before .before .before))
 
@@ -55,9 +53,6 @@ add-word-3 c = omega (arith, small (c .before .before .before .before))
 
 word-requires-2 : tie.Need-word-requires-2 Inv-loop μ-loop
 word-requires-2 c κs = omega (arith, small (c .before .before .before .before))
-
-cast-count : tie.Need-cast-count Inv-loop μ-loop
-cast-count c = omega arith
 
 loop-holds : tie.Need-loop-holds Inv-loop μ-loop
 loop-holds c = let a = c .before .before .before .before .before .args in
@@ -74,9 +69,6 @@ add-word-6 c = omega (arith, small (c .before .before .before .before .before .b
 
 word-requires-3 : tie.Need-word-requires-3 Inv-loop μ-loop
 word-requires-3 c κs = omega (arith, small (c .before .before .before .before .before .before .before .before), c .before .before .before .before .before .before .before .before .pre .1 .inside, c .before .before .before .before .before .word .ensures, c .before .before .before .word2 .ensures)
-
-cast-x : tie.Need-cast-x Inv-loop μ-loop
-cast-x c = omega arith
 
 lower-end-requires : tie.Need-lower-end-requires Inv-loop μ-loop
 lower-end-requires c κs = let a = c .before .before .before .before .before .before .before .before .before .before .args in
@@ -100,12 +92,6 @@ lower-end-requires c κs = let a = c .before .before .before .before .before .be
         held-here W X (a .g .vertices) (a .g .selectable) (a .lists) (a .degree) (a .v) (a .p .waiting) (a .p .candidates) (l .waiting) (l .candidates) (l .j) p (l .inv .1) m (omega arith) long,
       ),
     )
-
-add-j : tie.Need-add-j Inv-loop μ-loop
-add-j c = omega arith
-
-loop-less : tie.Need-loop-less Inv-loop μ-loop
-loop-less c = omega arith
 
 loop-again : tie.Need-loop-again Inv-loop μ-loop
 loop-again c = let a = c .before .before .before .before .before .before .before .before .before .before .before .before .before .args in
@@ -139,20 +125,20 @@ lower-all-spec =
     μ-loop
     add-word
     word-requires
-    cast-start
+    (λ c. search needs)
     add-word-2
     add-word-3
     word-requires-2
-    cast-count
+    (λ c. search needs)
     loop-holds
     add-word-4
     add-word-5
     add-word-6
     word-requires-3
-    cast-x
+    (λ c. search needs)
     lower-end-requires
-    add-j
-    loop-less
+    (λ c. search needs)
+    (λ c. search needs)
     loop-again
     same-length
     returns)

@@ -24,12 +24,6 @@ on c =
     let a = c .before .before .before .before .args in
     subst T (sym (live-at (words (a .room .now)) (a .g .vertices) (a .x) (omega arith) ∙ sym (c .before .is-active .ensures) ∙ not-false (c .before .is-active .result) (c .if1 .left))) tt
 
-is-active-requires : tie.Need-is-active-requires
-is-active-requires c κs = search needs
-
-same-length : tie.Need-same-length
-same-length c = search needs
-
 returns : tie.Need-returns
 returns c = let a = c .before .before .before .before .args in
     let s = c .before .before .before .before in
@@ -64,9 +58,6 @@ offer-requires c κs = let a = c .before .before .before .before .before .before
     (omega (arith, s .pre .0 .3 .tables, length-words (a .room .now))) (s .pre .1 .1) (words (w .last .0)) is (omega (arith, f .1)) in
     ((omega arith, f .1, f .2, subst (λ (k : ℕ). Room k (a .g .selectable)) (sym (w .kept .0)) (s .pre .0 .3)), (h .small (a .x) (omega arith), h .heap))
 
-same-length-2 : tie.Need-same-length-2
-same-length-2 c = search needs
-
 returns-2 : tie.Need-returns-2
 returns-2 c = let a = c .before .before .before .before .before .before .before .before .before .before .before .before .before .before .args in
     let s = c .before .before .before .before .before .before .before .before .before .before .before .before .before .before in
@@ -82,8 +73,8 @@ pub lower-end-spec : {M : Type 1} → statement M
 lower-end-spec =
     tie.close
     (tie.spec
-    is-active-requires
-    same-length
+    (λ c κs. search needs)
+    (λ c. search needs)
     returns
     add-word
     word-requires
@@ -91,5 +82,5 @@ lower-end-spec =
     sub-set-word
     set-word-requires
     offer-requires
-    same-length-2
+    (λ c. search needs)
     returns-2)

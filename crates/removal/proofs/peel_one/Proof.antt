@@ -21,23 +21,8 @@ on c =
     let a = c .before .before .before .before .before .before .before .args in
     subst T (sym (live-at (words (a .room .now)) (a .g .vertices) (c .before .before .before .word .result) (entry-low _ _ _ _ _ _ _ (c .before .before .before .before .before .before .before .pre .1) _ (omega arith) (c .before .before .before .word .ensures)) ∙ sym (c .before .is-active .ensures) ∙ not-false (c .before .is-active .result) (c .if1 .left))) tt
 
-sub-waiting : tie.Need-sub-waiting
-sub-waiting c = search needs
-
-add-word : tie.Need-add-word
-add-word c = search needs
-
-word-requires : tie.Need-word-requires
-word-requires c κs = search needs
-
-cast-v : tie.Need-cast-v
-cast-v c = search needs
-
 is-active-requires : tie.Need-is-active-requires
 is-active-requires c κs = (omega (arith, entry-low _ _ _ _ _ _ _ (c .before .before .before .before .before .pre .1) _ (omega arith) (c .before .word .ensures), c .before .before .before .before .before .pre .1 .fixed .few-vertices), c .before .before .before .before .before .pre .0 .2 .tables)
-
-same-length : tie.Need-same-length
-same-length c = search needs
 
 returns : tie.Need-returns
 returns c = let a = c .before .before .before .before .before .before .before .args in
@@ -48,18 +33,12 @@ returns c = let a = c .before .before .before .before .before .before .before .a
 is-loose-requires : tie.Need-is-loose-requires
 is-loose-requires c κs = (omega (arith, entry-low _ _ _ _ _ _ _ (c .before .before .before .before .before .before .before .before .pre .1) _ (omega arith) (c .before .before .before .before .word .ensures), c .before .before .before .before .before .before .before .before .pre .1 .fixed .few-vertices), c .before .before .before .before .before .before .before .before .pre .0 .2 .tables)
 
-same-length-2 : tie.Need-same-length-2
-same-length-2 c = search needs
-
 returns-2 : tie.Need-returns-2
 returns-2 c = let a = c .before .before .before .before .before .before .before .before .before .before .args in
     once-passed _ _ _ _ _ _ _ (c .before .before .before .before .before .before .before .before .before .before .pre .1) _ (omega arith) (c .before .before .before .before .before .before .word .ensures) (λ t. not-loose (insOf (words (a .room .now)) (c .before .before .before .before .before .before .word .result)) (outsOf (words (a .room .now)) (c .before .before .before .before .before .before .word .result)) (c .before .is-loose .result) (c .before .is-loose .ensures) (not-true (c .before .is-loose .result) (c .if2 .taken)))
 
 remove-vertex-requires : tie.Need-remove-vertex-requires
 remove-vertex-requires c κs = ((omega arith, c .before .before .before .before .before .before .before .before .before .before .before .pre .0 .2), once-removable _ _ _ _ _ _ _ (c .before .before .before .before .before .before .before .before .before .before .before .pre .1) _ (omega arith) (c .before .before .before .before .before .before .before .word .ensures) (on (c .before .before .before .before)))
-
-same-length-3 : tie.Need-same-length-3
-same-length-3 c = search needs
 
 returns-3 : tie.Need-returns-3
 returns-3 c = let a = c .before .before .before .before .before .before .before .before .before .before .before .before .before .before .args in
@@ -72,16 +51,16 @@ pub peel-one-spec : {M : Type 1} → statement M
 peel-one-spec =
     tie.close
     (tie.spec
-    sub-waiting
-    add-word
-    word-requires
-    cast-v
+    (λ c. search needs)
+    (λ c. search needs)
+    (λ c κs. search needs)
+    (λ c. search needs)
     is-active-requires
-    same-length
+    (λ c. search needs)
     returns
     is-loose-requires
-    same-length-2
+    (λ c. search needs)
     returns-2
     remove-vertex-requires
-    same-length-3
+    (λ c. search needs)
     returns-3)

@@ -15,45 +15,18 @@ returns : tie.Need-returns
 returns c = let a = c .before .before .args in
     queued-no (words (a .room .now)) (a .v) (a .selectable) (a .candidates) (c .before .before .pre .1 .1) (λ l i o. omega arith)
 
-is-loose-requires : tie.Need-is-loose-requires
-is-loose-requires c κs = search needs
-
-same-length : tie.Need-same-length
-same-length c = search needs
-
 returns-2 : tie.Need-returns-2
 returns-2 c = let a = c .before .before .before .before .before .args in
     let z = is-loose (insOf (words (a .room .now)) (a .v)) (outsOf (words (a .room .now)) (a .v)) (c .before .is-loose .result) (c .before .is-loose .ensures) (c .if2 .taken) in
     queued-no (words (a .room .now)) (a .v) (a .selectable) (a .candidates) (c .before .before .before .before .before .pre .1 .1) (λ l i o. ⊎-elim (λ e. omega arith) (λ e. omega arith) z)
-
-add-word : tie.Need-add-word
-add-word c = search needs
-
-word-requires : tie.Need-word-requires
-word-requires c κs = search needs
-
-add-word-2 : tie.Need-add-word-2
-add-word-2 c = search needs
-
-word-requires-2 : tie.Need-word-requires-2
-word-requires-2 c κs = search needs
 
 mul-t17 : tie.Need-mul-t17
 mul-t17 c = let i : c .before .before .word .result ≤ 8192 = omega (arith, c .before .before .word .ensures, c .before .before .before .before .before .before .before .before .before .pre .1 .0 .0) in
     let o : c .word2 .result ≤ 8192 = omega (arith, c .word2 .ensures, c .before .before .before .before .before .before .before .before .before .pre .1 .0 .1) in
     omega (arith, mul-le-mul i o)
 
-cast-t18 : tie.Need-cast-t18
-cast-t18 c = search needs
-
 push-requires : tie.Need-push-requires
 push-requires c κs = (omega (arith, c .before .before .before .before .before .before .before .before .before .before .pre .0 .2 .queue (omega arith)), c .before .before .before .before .before .before .before .before .before .before .pre .1 .1)
-
-add-result : tie.Need-add-result
-add-result c = search needs
-
-same-length-2 : tie.Need-same-length-2
-same-length-2 c = search needs
 
 returns-3 : tie.Need-returns-3
 returns-3 c = let a = c .before .before .before .before .before .before .before .before .before .before .before .before .before .args in
@@ -65,16 +38,16 @@ push-candidate-spec =
     tie.close
     (tie.spec
     returns
-    is-loose-requires
-    same-length
+    (λ c κs. search needs)
+    (λ c. search needs)
     returns-2
-    add-word
-    word-requires
-    add-word-2
-    word-requires-2
+    (λ c. search needs)
+    (λ c κs. search needs)
+    (λ c. search needs)
+    (λ c κs. search needs)
     mul-t17
-    cast-t18
+    (λ c. search needs)
     push-requires
-    add-result
-    same-length-2
+    (λ c. search needs)
+    (λ c. search needs)
     returns-3)

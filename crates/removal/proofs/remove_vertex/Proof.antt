@@ -29,9 +29,6 @@ lower-all-requires-2 c κs = let w = c .before .before .before .before .before .
       lowerable-in _ _ _ _ _ _ _ _ (c .before .before .before .before .before .before .before .before .before .before .pre .1) (c .before .before .before .before .before .before .before .before .before .before .pre .0 .0) (words (w .last .0)) (w .ensures) (words (l .last .0)) (l .result .waiting) (l .result .candidates) (l .ensures),
     )
 
-same-length : tie.Need-same-length
-same-length c = search needs
-
 returns : tie.Need-returns
 returns c = let w = c .before .before .before .before .before .before .before .before .before .before .set-word in
     let l = c .before .before .before .before .before .before .lower-all in
@@ -46,5 +43,5 @@ remove-vertex-spec =
     set-word-requires
     lower-all-requires
     lower-all-requires-2
-    same-length
+    (λ c. search needs)
     returns)

@@ -3,6 +3,7 @@
 use mathlib.Core.Path.{_≡_, refl, sym, _∙_, subst}
 use Prim.Native.Nat.{ℕ, _≤_, _-_}
 use native.Mathlib.Nat.{le-antisymm}
+use borrow.Author.Needs.{needs}
 use native.Mathlib.Omega.{arith}
 use lib.ListN.{length}
 use Rattle.le.specs.Le.{words}
@@ -27,12 +28,6 @@ offer-requires c κs = let a = c .before .before .before .before .args in
     let s = l .inv .1 in
     let small = s .held .small (l .v) (omega arith) in
     ((omega arith, omega (arith, s .few-waiting), omega (arith, s .few-candidates), subst (λ (k : ℕ). Room k (a .selectable)) (sym (l .inv .2)) (c .before .before .before .before .pre .0 .2)), (small, s .held .heap))
-
-add-v : tie.Need-add-v Inv-loop μ-loop
-add-v c = omega arith
-
-loop-less : tie.Need-loop-less Inv-loop μ-loop
-loop-less c = omega arith
 
 loop-again : tie.Need-loop-again Inv-loop μ-loop
 loop-again c = let a = c .before .before .before .before .before .before .before .args in
@@ -60,8 +55,8 @@ seed-spec =
     μ-loop
     loop-holds
     offer-requires
-    add-v
-    loop-less
+    (λ c. search needs)
+    (λ c. search needs)
     loop-again
     same-length
     returns)

@@ -3,7 +3,6 @@
 use mathlib.Core.Path.{ap, subst, _∙_}
 use mathlib.Core.List.{List}
 use Prim.Native.Nat.{ℕ}
-use native.Mathlib.Omega.{arith}
 use lib.ListN.{length}
 use denote.Ref.{now}
 use borrow.Author.Needs.{needs}
@@ -12,20 +11,14 @@ use Rattle.form.specs.Stored.{Stored}
 use Rattle.form.specs.declared.Refusal.{Refusal}
 use Rattle.report.specs.Report.{refusedLine}
 use Rattle.report.specs.Text.{Printed}
-use Rattle.form.proofs.Stored.{stored, unread}
-use Rattle.le.proofs.Numbers.{below-each}
+use Rattle.form.proofs.Stored.{unread, stored-bytes}
 use Rattle.report.proofs.Reports.{Drawing, text-unread, text-refused, text-done}
 use Rattle.report.proofs.report.Statement.{statement}
 use Rattle.report.proofs.report.Tie as tie
 
 -- the form that was read
 form : (c : tie.After-known-told) → Stored (now (c .before .before .before .before .before .before .before .before .args .src)) (c .before .graph .given .0 .0)
-form c =
-    let b = now (c .before .before .before .before .before .before .before .before .args .src) in
-    let r = c .before .before .before .read in
-    let x = c .before .graph .given in
-    stored b (r .result) (r .ensures)
-    (below-each 256 b (λ i l. omega (arith, c .before .before .before .before .before .before .before .shared-slice-known .given i))) (x .0 .0) (x .1)
+form c = stored-bytes (c .before .before .before .read .ensures) (c .before .before .before .before .before .before .before .shared-slice-known .given) (c .before .graph .given .1)
 
 -- the choice that was made
 drawing : (c : tie.After-known-told2)

@@ -1,25 +1,19 @@
 -- `rewrite::read_sizes` meets its contract.
 -- Assumes nothing.
-use mathlib.Core.Path.{ap, _∙_}
 use native.Mathlib.Omega.{arith}
 use denote.Ref.{now}
 use borrow.Author.Needs.{needs}
-use Rattle.le.proofs.Numbers.{below-each}
 use Rattle.graph.specs.Answer.{_>>=_}
-use Rattle.form.specs.Form.{refusalRead}
 use Rattle.form.specs.Stored.{Stored}
-use Rattle.form.proofs.Answers.{gives-refused}
-use Rattle.form.proofs.Stored.{unread, stored, stored-rows}
-use Rattle.rewrite.proofs.Ways.{refuse, sizes-10, sizes-0}
+use Rattle.form.proofs.Answers.{passed-read, gives-refused}
+use Rattle.form.proofs.Stored.{unread, stored-rows, stored-bytes}
+use Rattle.rewrite.proofs.Ways.{sizes-10, sizes-0}
 use Rattle.rewrite.proofs.read_sizes.Statement.{statement}
 use Rattle.rewrite.proofs.read_sizes.Tie as tie
 
 -- the form that was read
 form : (c : tie.After-known-told) → Stored (now (c .before .before .before .before .before .before .args .src)) (c .before .graph .given .0 .0)
-form c =
-    let b = now (c .before .before .before .before .before .before .args .src) in
-    stored b (c .before .before .before .read .result) (c .before .before .before .read .ensures)
-    (below-each 256 b (λ i l. omega (arith, c .before .before .before .before .before .shared-slice-known .given i))) (c .before .graph .given .0 .0) (c .before .graph .given .1)
+form c = stored-bytes (c .before .before .before .read .ensures) (c .before .before .before .before .before .shared-slice-known .given) (c .before .graph .given .1)
 
 returns : tie.Need-returns
 unfolding _>>=_
@@ -27,7 +21,7 @@ returns c =
     let a = c .before .before .before .before .before .before .args in
     let r = c .before .before .before .read in
     let x = c .before .enum-told .given in
-    refuse (c .refusal .ensures ∙ ap refusalRead (x .1)) (gives-refused (x .0 .0) (now (a .out)) (rw (unread (now (a .src)) (r .result) (r .ensures) (x .0 .0) (x .1))))
+    gives-refused (c .refusal .result) (now (a .out)) (rw (unread (now (a .src)) (r .result) (r .ensures) (c .refusal .result) (passed-read (x .1) (c .refusal .ensures))))
 
 returns-2 : tie.Need-returns-2
 returns-2 c = sizes-10 (form (c .before)) (now (c .before .before .before .before .before .before .before .args .out)) (omega arith)

@@ -4,6 +4,7 @@ use mathlib.Core.Path.{_≡_, sym, ap, _∙_}
 use mathlib.Core.List.{_∷_, []}
 use Prim.Native.Nat.{ℕ, _+_, _-_, _≤_}
 use native.Mathlib.Nat.{le-antisymm}
+use borrow.Author.Needs.{needs}
 use native.Mathlib.Omega.{arith}
 use lib.ListN.{length}
 use denote.Ref.{now}
@@ -26,21 +27,12 @@ loop-holds c = (omega arith, sym (puts-none _ (c .before .args .r) (c .before .a
 add-put-number : tie.Need-add-put-number Inv-loop μ-loop
 add-put-number c = omega (arith, holds-index (c .before .before .before .before .pre .0))
 
-add-put-number-2 : tie.Need-add-put-number-2 Inv-loop μ-loop
-add-put-number-2 c = omega arith
-
 put-number-requires : tie.Need-put-number-requires Inv-loop μ-loop
 put-number-requires c κs =
     let l = c .before .before .loop in (
       holds-same (holds-less (c .before .before .before .before .pre .0) _ (omega arith)) (l .out) (ap length (l .inv .1) ∙ length-puts _ _ _ _),
       omega arith,
     )
-
-add-i : tie.Need-add-i Inv-loop μ-loop
-add-i c = omega arith
-
-loop-less : tie.Need-loop-less Inv-loop μ-loop
-loop-less c = omega arith
 
 loop-again : tie.Need-loop-again Inv-loop μ-loop
 loop-again c =
@@ -69,10 +61,10 @@ put-range-spec =
     μ-loop
     loop-holds
     add-put-number
-    add-put-number-2
+    (λ c. search needs)
     put-number-requires
-    add-i
-    loop-less
+    (λ c. search needs)
+    (λ c. search needs)
     loop-again
     same-length
     returns)

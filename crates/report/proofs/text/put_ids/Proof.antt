@@ -28,15 +28,6 @@ loop-holds c = let a = c .before .before .args in (omega arith, printed-none (a 
 number-requires : tie.Need-number-requires Inv-loop μ-loop
 number-requires c κs = let l = c .before in holds-less (l .before .before .before .pre .0) (l .loop .i + 1) (omega arith)
 
-put-id-requires : tie.Need-put-id-requires Inv-loop μ-loop
-put-id-requires c κs = search needs
-
-add-i : tie.Need-add-i Inv-loop μ-loop
-add-i c = search needs
-
-loop-less : tie.Need-loop-less Inv-loop μ-loop
-loop-less c = search needs
-
 loop-again : tie.Need-loop-again Inv-loop μ-loop
 loop-again c =
     let got = c .before .before .before .before in
@@ -67,9 +58,9 @@ put-ids-spec =
     μ-loop
     loop-holds
     number-requires
-    put-id-requires
-    add-i
-    loop-less
+    (λ c κs. search needs)
+    (λ c. search needs)
+    (λ c. search needs)
     loop-again
     same-length
     returns)
