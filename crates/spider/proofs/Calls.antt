@@ -3,13 +3,12 @@
 use mathlib.Core.Bool.{Bool, true, false, cond}
 use mathlib.Core.List.{List, [], _∷_}
 use mathlib.Core.Path.{_≡_, refl, sym, ap, _∙_, subst}
-use Prim.Native.Nat.{ℕ, zero, suc, _+_, _/_, _≤_, _<_}
-use native.Mathlib.Nat.{div-add-mod'}
+use Prim.Native.Nat.{ℕ, zero, suc, _+_, _≤_, _<_}
 use native.Mathlib.Omega.{arith}
 use lib.Dec.{eqb, leb}
-use lib.ListN.{length, drop}
-use borrow.Author.Tests.{eqb-true, eqb-false, ne-eqb, leb-true}
-use Rattle.form.specs.Form.{counted, tested, reading, refusalIn, refusalRead, meantBy, Gives}
+use lib.ListN.{length}
+use borrow.Author.Tests.{eqb-true, eqb-false, ne-eqb}
+use Rattle.form.specs.Form.{tested, reading, refusalIn, refusalRead, meantBy, Gives}
 use Rattle.form.specs.Stored.{graphOf, formatOf, Stored}
 use Rattle.form.specs.declared.Outcome.the-variants as call
 use Rattle.form.specs.declared.Reading.the-variants as reads
@@ -18,7 +17,7 @@ use Rattle.form.specs.declared.Refusal.{Refusal}
 use Rattle.form.specs.declared.Sizes.{Sizes}
 use Rattle.form.specs.declared.Step.the-variants as step
 use Rattle.form.specs.declared.Step.{Step}
-use Rattle.form.proofs.Answers.{gives-refused, list-answered, test-answered}
+use Rattle.form.proofs.Answers.{gives-refused, test-answered, work-short, work-enough, room-enough}
 use Rattle.form.proofs.Stored.{unread, stored}
 use Rattle.graph.specs.Answer.{Answer, Result, answered, refused, _else_}
 use Rattle.graph.specs.Answer as answer
@@ -28,16 +27,13 @@ use Rattle.graph.specs.Lists.{among, member, range}
 use Rattle.graph.specs.Spider.{spiderizedAt, spiderize}
 use Rattle.graph.specs.Versions.{read}
 use Rattle.graph.proofs.Kept.{below-range}
-use Rattle.graph.proofs.Lists.{below-true}
-use Rattle.graph.proofs.Steps.{same-answer, passed, stops, goes}
+use Rattle.graph.proofs.Steps.{passed, stops, goes}
 use Rattle.graph.proofs.Verdicts.{unpaired-0}
-use Rattle.le.specs.Le.{Below, Wide, numbers}
-use Rattle.le.specs.Rows.{Holds, placeIn, rowAt, span}
-use Rattle.le.proofs.Numbers.{length-numbers}
+use Rattle.le.specs.Le.{Below}
 use Rattle.links.specs.Links.{unlisted, isListed, Heads, Linked}
 use Rattle.links.proofs.Cells.{listing}
 use Rattle.links.proofs.Chains.{heads-linked}
-use Rattle.write.proofs.Calls.{gives-by, work-short, work-enough, graph-unread, graph-stopped}
+use Rattle.write.proofs.Calls.{gives-by, graph-unread, graph-stopped}
 
 -- the refusal that code passes on
 pub passes : {a : Answer Result} {old : List ℕ} {q x : Refusal} → q ≡ x → Gives a (call.Refused x) old old → Gives a (call.Refused q) old old
@@ -55,12 +51,11 @@ pub record Opened (b : List ℕ) (lent : ℕ) (z : Sizes) : Type 0 where
 
 module _ (b : List ℕ) (lent : ℕ) {w : Step} (tests : w ≡ tested (leb roomSpiderize lent else 10)) where
   pub opened : {n : ℕ} → w ≡ step.Number n → {r : Reading} → r ≡ reading (read b) → Below 256 b → {z : Sizes} → r ≡ reads.Sized z → Opened b lent z
-  unfolding inWorkRoom
   opened {n} e {r} is bytes {z} d =
       let s = stored b r is bytes z d in
       record {
         enough = λ a. work-enough roomSpiderize lent a w tests n e;
-        roomy = leb-true roomSpiderize lent (passed (leb roomSpiderize lent) 10 (answered n) (work-enough roomSpiderize lent (answered n) w tests n e) .0);
+        roomy = room-enough roomSpiderize lent w tests n e;
         form = s;
         nodes = ap (λ (y : Sizes). y .nodes) (s .sizes);
         pairs = sym (ap (λ (y : Sizes). y .pairs) (s .sizes));
@@ -78,29 +73,6 @@ module _ (b : List ℕ) (lent : ℕ) {w : Step} (tests : w ≡ tested (leb roomS
 pub stopped : {b : List ℕ} {lent : ℕ} {z : Sizes} → Opened b lent z → (next : Format → Graph → Answer Next) (old : List ℕ) {s : Step} {q x : Refusal} → s ≡ step.Refused x → q ≡ refusalIn s
     → next (formatOf b) (graphOf b) ≡ refused (meantBy x) → Gives (inWorkRoom roomSpiderize lent (onGraph b (length old) next)) (call.Refused q) old old
 stopped {b} o next old {x = x} e is h = passes (is ∙ ap refusalIn e) (gives-by (o .enough (onGraph b (length old) next)) (graph-stopped b next old (o .form) x h))
-
--- n ids, all below the count
-pub record Given (f : Format) (count width : ℕ) (b : List ℕ) (n : ℕ) : Type 0 where
-  pub is : idList f count b ≡ answered (span b (rowAt 0 width) 0 n)
-  pub held : Holds b (rowAt 0 width) n
-  pub below : Below count (span b (rowAt 0 width) 0 n)
-
-pub given : (f : Format) (count width : ℕ) (b : List ℕ) → Wide width → f .width ≡ width → (r : Step) → r ≡ counted (idList f count b) → (n : ℕ) → r ≡ step.Number n
-    → Given f count width b n
-unfolding idList span
-given f count width b wide w r is n e =
-    let t = list-answered (idList f count b) r is n e in
-    let p = passed _ 7 _ (t .1) in
-    let q = passed _ 7 _ (p .1) in
-    let many : n ≡ length b / f .width = t .2 ∙ ap length (sym (same-answer (q .1))) ∙ length-numbers (f .width) (length b / f .width) b in
-    let start : 0 ≡ placeIn (rowAt 0 width) 0 = omega arith in
-    let all : numbers (f .width) (length b / f .width) b ≡ numbers width n (drop (placeIn (rowAt 0 width) 0) b) = λ i. numbers (w i) (sym many i) (drop (start i) b) in
-    let here : n ≡ length b / width = many ∙ ap (λ (k : ℕ). length b / k) w in
-    record {
-      is = t .1 ∙ ap answered (sym (same-answer (q .1)) ∙ all);
-      held = record { wide = wide; inside = rw here (omega (arith, div-add-mod' (length b) width)) };
-      below = subst (Below count) all (below-true count (numbers (f .width) (length b / f .width) b) (q .0));
-    }
 
 pub none-paired : (g : Graph) (r : Step) → r ≡ tested (unpaired g) → (n : ℕ) → r ≡ step.Number n → length (g .pairs) ≡ 0
 unfolding unpaired

@@ -19,7 +19,6 @@ use Rattle.form.specs.declared.Sizes.{Sizes}
 use Rattle.form.specs.declared.Step.the-variants as step
 use Rattle.form.specs.declared.Step.{Step}
 use Rattle.form.proofs.Answers.{number-refused, number-answered, passed-on, gives-refused, gives-done}
-pub use Rattle.form.proofs.Answers.{work-short, work-enough}
 use Rattle.write.specs.Write.{resultSize, drawn, Room}
 use Rattle.write.proofs.Results.{Fits, result-refused, result-fits, fits-room, drawn-whole}
 

@@ -10,9 +10,6 @@ use borrow.Author.Tests.{eq-eqb, ne-eqb}
 use Rattle.checks.proofs.feed.Statement.{statement}
 use Rattle.checks.proofs.feed.Tie as tie
 
-slice-read-fed : tie.Need-slice-read-fed
-slice-read-fed c = search needs
-
 div-if1 : tie.Need-div-if1
 div-if1 c = ⊎-elim (λ (e : c .before .args .way ≡ 1). omega arith) (λ (e : c .before .args .way ≡ 2). omega arith) (c .before .pre .1)
 
@@ -32,16 +29,10 @@ add-room c =
     omega arith)
     (c .before .before .pre .1)
 
-slice-write-room : tie.Need-slice-write-room
-slice-write-room c = search needs
-
-same-length : tie.Need-same-length
-same-length c = search needs
-
 returns-2 : tie.Need-returns-2
 returns-2 c = (rw (ne-eqb _ _ (c .if1 .left)), refl)
 
 pub feed-spec : {M : Type 1} → statement M
 feed-spec =
     tie.close
-    (tie.spec slice-read-fed div-if1 returns add-room slice-write-room same-length returns-2)
+    (tie.spec (λ c. search needs) div-if1 returns add-room (λ c. search needs) (λ c. search needs) returns-2)

@@ -9,9 +9,6 @@ use native.Mathlib.Omega.{arith}
 use Rattle.delete.proofs.if_stays.Statement.{statement}
 use Rattle.delete.proofs.if_stays.Tie as tie
 
-shared-slice-read-if1 : tie.Need-shared-slice-read-if1
-shared-slice-read-if1 c = search needs
-
 returns : tie.Need-returns
 returns c =
     let a = c .before .before .args in
@@ -23,4 +20,4 @@ returns-2 c =
     (omega arith, λ n l. sym (ap (λ (t : Bool). cond t 0 (a .x)) (goes (now (a .room)) n (a .id) l (c .if1 .left))))
 
 pub if-stays-spec : {M : Type 1} → statement M
-if-stays-spec = tie.close (tie.spec shared-slice-read-if1 returns returns-2)
+if-stays-spec = tie.close (tie.spec (λ c. search needs) returns returns-2)

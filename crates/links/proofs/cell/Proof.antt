@@ -11,9 +11,6 @@ use Rattle.links.proofs.Cells.{cells-held, getD-cells, cell-low}
 use Rattle.links.proofs.cell.Statement.{statement}
 use Rattle.links.proofs.cell.Tie as tie
 
-cell-row-requires : tie.Need-cell-row-requires
-cell-row-requires c κs = search needs
-
 number-requires : tie.Need-number-requires
 number-requires c κs = let a = c .before .before .args in rw (c .cell-row .ensures) (cells-held (now (a .room)) _ (omega arith))
 
@@ -25,4 +22,4 @@ returns c =
     (is, omega (arith, cell-low (now (a .room)) (a .i) (S .pre) (below-each 256 (now (a .room)) (λ i l. c .before .before .shared-slice-known .given i .fits))))
 
 pub cell-spec : {M : Type 1} → statement M
-cell-spec = tie.close (tie.spec cell-row-requires number-requires returns)
+cell-spec = tie.close (tie.spec (λ c κs. search needs) number-requires returns)

@@ -43,9 +43,6 @@ turned c =
 add-n : tie.Need-add-n Inv-loop μ-loop
 add-n c = omega (arith, c .before .loop .inv .1 .few)
 
-mul-cell : tie.Need-mul-cell Inv-loop μ-loop
-mul-cell c = omega arith
-
 add-cell : tie.Need-add-cell Inv-loop μ-loop
 add-cell c = omega (arith, inside c)
 
@@ -76,7 +73,7 @@ chain-length-spec =
     cell-requires
     loop-holds
     add-n
-    mul-cell
+    (λ c. omega arith)
     add-cell
     cell-requires-2
     loop-less

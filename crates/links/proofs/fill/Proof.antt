@@ -21,17 +21,8 @@ abbrev μ-loop : tie.MeasureT-loop
 loop-holds : tie.Need-loop-holds Inv-loop μ-loop
 loop-holds c = (omega arith, refl, refl)
 
-add-set-cell : tie.Need-add-set-cell Inv-loop μ-loop
-add-set-cell c = omega arith
-
 set-cell-requires : tie.Need-set-cell-requires Inv-loop μ-loop
 set-cell-requires c κs = (omega arith, omega arith)
-
-add-k : tie.Need-add-k Inv-loop μ-loop
-add-k c = omega arith
-
-loop-less : tie.Need-loop-less Inv-loop μ-loop
-loop-less c = omega arith
 
 loop-again : tie.Need-loop-again Inv-loop μ-loop
 loop-again c =
@@ -56,10 +47,10 @@ fill-spec =
     Inv-loop
     μ-loop
     loop-holds
-    add-set-cell
+    (λ c. omega arith)
     set-cell-requires
-    add-k
-    loop-less
+    (λ c. omega arith)
+    (λ c. omega arith)
     loop-again
     same-length
     returns)

@@ -9,17 +9,8 @@ use native.Mathlib.Omega.{arith}
 use Rattle.links.proofs.list_all.Statement.{statement}
 use Rattle.links.proofs.list_all.Tie as tie
 
-mul-fill : tie.Need-mul-fill
-mul-fill c = search needs
-
-fill-requires : tie.Need-fill-requires
-fill-requires c κs = search needs
-
-same-length : tie.Need-same-length
-same-length c = search needs
-
 returns : tie.Need-returns
 returns c = let a = c .before .before .before .before .before .args in rw (c .before .before .fill .ensures) (all-filled (cells (now (a .room))) (a .nodes) true (omega (arith, length-cells (now (a .room)))))
 
 pub list-all-spec : {M : Type 1} → statement M
-list-all-spec = tie.close (tie.spec mul-fill fill-requires same-length returns)
+list-all-spec = tie.close (tie.spec (λ c. search needs) (λ c κs. search needs) (λ c. search needs) returns)

@@ -44,12 +44,6 @@ mul-fill c = let q = known (c .before) in omega arith
 fill-requires : tie.Need-fill-requires Inv-loop μ-loop
 fill-requires c κs = let q = known (c .before) in (omega arith, omega arith)
 
-add-j : tie.Need-add-j Inv-loop μ-loop
-add-j c = omega arith
-
-loop-less : tie.Need-loop-less Inv-loop μ-loop
-loop-less c = omega arith
-
 loop-again : tie.Need-loop-again Inv-loop μ-loop
 loop-again c =
     let S = c .before .before .before .before .before .before .before .before .before in
@@ -78,8 +72,8 @@ list-ids-spec =
     number-requires
     mul-fill
     fill-requires
-    add-j
-    loop-less
+    (λ c. omega arith)
+    (λ c. omega arith)
     loop-again
     same-length
     returns)

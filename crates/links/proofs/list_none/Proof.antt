@@ -9,20 +9,8 @@ use native.Mathlib.Omega.{arith}
 use Rattle.links.proofs.list_none.Statement.{statement}
 use Rattle.links.proofs.list_none.Tie as tie
 
-mul-fill : tie.Need-mul-fill
-mul-fill c = search needs
-
-unlisted-requires : tie.Need-unlisted-requires
-unlisted-requires c κs = search needs
-
-fill-requires : tie.Need-fill-requires
-fill-requires c κs = search needs
-
-same-length : tie.Need-same-length
-same-length c = search needs
-
 returns : tie.Need-returns
 returns c = let a = c .before .before .before .before .before .before .args in rw (c .before .before .fill .ensures, c .before .before .before .unlisted .ensures) (all-filled (cells (now (a .room))) (a .nodes) false (omega (arith, length-cells (now (a .room)))))
 
 pub list-none-spec : {M : Type 1} → statement M
-list-none-spec = tie.close (tie.spec mul-fill unlisted-requires fill-requires same-length returns)
+list-none-spec = tie.close (tie.spec (λ c. search needs) (λ c κs. search needs) (λ c κs. search needs) (λ c. search needs) returns)

@@ -10,17 +10,8 @@ use Rattle.links.proofs.Cells.{listed-at}
 use Rattle.links.proofs.listed.Statement.{statement}
 use Rattle.links.proofs.listed.Tie as tie
 
-mul-cell : tie.Need-mul-cell
-mul-cell c = search needs
-
-cell-requires : tie.Need-cell-requires
-cell-requires c κs = search needs
-
-unlisted-requires : tie.Need-unlisted-requires
-unlisted-requires c κs = search needs
-
 returns : tie.Need-returns
 returns c = λ nodes l. let a = c .before .before .before .args in (λ i. not (eqb (c .before .cell .ensures .0 i) (c .unlisted .ensures i))) ∙ listed-at nodes (cells (now (a .room))) (a .id) l
 
 pub listed-spec : {M : Type 1} → statement M
-listed-spec = tie.close (tie.spec mul-cell cell-requires unlisted-requires returns)
+listed-spec = tie.close (tie.spec (λ c. search needs) (λ c κs. search needs) (λ c κs. search needs) returns)

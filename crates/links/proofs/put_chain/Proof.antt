@@ -61,9 +61,6 @@ put-number-requires c κs =
       omega (arith, l .inv .1 .few, c .before .before .before .cell .ensures .1),
     )
 
-mul-cell : tie.Need-mul-cell Inv-loop μ-loop
-mul-cell c = omega arith
-
 add-cell : tie.Need-add-cell Inv-loop μ-loop
 add-cell c = omega (arith, inside (c .before .before .before .before) .0)
 
@@ -108,7 +105,7 @@ put-chain-spec =
     loop-holds
     sub-at
     put-number-requires
-    mul-cell
+    (λ c. omega arith)
     add-cell
     cell-requires-2
     loop-less

@@ -23,13 +23,10 @@ put-number-requires c κs = let S = c .before .before .before in (rw (here (c .b
 add-result : tie.Need-add-result
 add-result c = let S = c .before .before .before .before .before .before in omega (arith, holds-index (rw (here (c .before .before .before .before)) at (S .pre .0)))
 
-same-length : tie.Need-same-length
-same-length c = search needs
-
 returns-2 : tie.Need-returns-2
 returns-2 c =
     let S = c .before .before .before .before .before .before in
     rw (here (c .before .before .before .before)) (record { stored = c .before .before .put-number .ensures; next = refl })
 
 pub put-itself-spec : {M : Type 1} → statement M
-put-itself-spec = tie.close (tie.spec returns put-number-requires add-result same-length returns-2)
+put-itself-spec = tie.close (tie.spec returns put-number-requires add-result (λ c. search needs) returns-2)

@@ -36,9 +36,6 @@ put-chain-requires c κs =
       holds-same (holds-less (S .pre .0 .3) _ (omega (arith, long (c .before .before .before .before)))) _ (p .kept .0),
     )
 
-same-length : tie.Need-same-length
-same-length c = search needs
-
 returns : tie.Need-returns
 returns c = λ es h e.
     let a = c .before .before .before .before .before .before .before .before .before .before .args in
@@ -49,4 +46,4 @@ returns c = λ es h e.
 
 pub put-side-spec : {M : Type 1} → statement M
 put-side-spec =
-    tie.close (tie.spec put-itself-requires add-end put-chain-requires same-length returns)
+    tie.close (tie.spec put-itself-requires add-end put-chain-requires (λ c. search needs) returns)

@@ -36,12 +36,6 @@ put-spider-requires c κs =
     let room = spiders-room (a .nodes) (cells (now (a .room))) (p .0) (l .id) less in
     (less, omega arith, (p .0, p .1, holds-same (holds-less (p .2) _ (omega arith)) (l .out) (l .inv .1)))
 
-add-id : tie.Need-add-id Inv-loop μ-loop
-add-id c = omega arith
-
-loop-less : tie.Need-loop-less Inv-loop μ-loop
-loop-less c = omega arith
-
 loop-again : tie.Need-loop-again Inv-loop μ-loop
 loop-again c =
     let a = c .before .before .before .before .before .before .before .before .args in
@@ -67,8 +61,8 @@ put-spiders-spec =
     μ-loop
     loop-holds
     put-spider-requires
-    add-id
-    loop-less
+    (λ c. omega arith)
+    (λ c. omega arith)
     loop-again
     same-length
     returns)

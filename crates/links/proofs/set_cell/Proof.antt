@@ -12,14 +12,8 @@ use Rattle.links.proofs.Cells.{cells-held, set-cells}
 use Rattle.links.proofs.set_cell.Statement.{statement}
 use Rattle.links.proofs.set_cell.Tie as tie
 
-cell-row-requires : tie.Need-cell-row-requires
-cell-row-requires c κs = search needs
-
 put-number-requires : tie.Need-put-number-requires
 put-number-requires c κs = (rw (c .cell-row .ensures) (cells-held _ _ (omega arith)), omega arith)
-
-same-length : tie.Need-same-length
-same-length c = search needs
 
 returns : tie.Need-returns
 returns c =
@@ -29,4 +23,4 @@ returns c =
     ∙ set-cells (now (a .room)) (a .i) (S .pre .0) (a .v) (S .pre .1)
 
 pub set-cell-spec : {M : Type 1} → statement M
-set-cell-spec = tie.close (tie.spec cell-row-requires put-number-requires same-length returns)
+set-cell-spec = tie.close (tie.spec (λ c κs. search needs) put-number-requires (λ c. search needs) returns)

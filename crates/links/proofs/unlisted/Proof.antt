@@ -9,8 +9,5 @@ use Rattle.links.proofs.unlisted.Tie as tie
 highest-requires : tie.Need-highest-requires
 highest-requires c κs = inl refl
 
-returns : tie.Need-returns
-returns c = search needs
-
 pub unlisted-spec : {M : Type 1} → statement M
-unlisted-spec = tie.close (tie.spec highest-requires returns)
+unlisted-spec = tie.close (tie.spec highest-requires (λ c. search needs))

@@ -10,20 +10,14 @@ use Rattle.ohg.proofs.Ranges.{add-target-ranged}
 use Rattle.ohg.proofs.ohg_add_edge_target.Statement.{statement}
 use Rattle.ohg.proofs.ohg_add_edge_target.Tie as tie
 
-add-edge-target-requires : tie.Need-add-edge-target-requires
-add-edge-target-requires c κs = search needs
-
 pack-requires : tie.Need-pack-requires
 pack-requires c κs =
     let a = c .before .before .before .before .before .before .args in
     let t-src = below-each 256 (now (a .src)) (λ i l. omega (arith, c .before .before .before .before .before .shared-slice-known .given i)) in
     packs (add-target-ranged (now (a .src)) t-src (length (now (a .out))) (a .edge) (a .label) (omega arith)) (c .before .before .add-edge-target .ensures .result)
 
-same-length : tie.Need-same-length
-same-length c = search needs
-
 returns : tie.Need-returns
 returns c = returns-of (c .before .before .before .add-edge-target .ensures) (c .pack .ensures)
 
 pub ohg-add-edge-target-spec : {M : Type 1} → statement M
-ohg-add-edge-target-spec = tie.close (tie.spec add-edge-target-requires pack-requires same-length returns)
+ohg-add-edge-target-spec = tie.close (tie.spec (λ c κs. search needs) pack-requires (λ c. search needs) returns)

@@ -10,23 +10,14 @@ use Rattle.ohg.proofs.Ranges.{cycle-breaking-nodes-ranged}
 use Rattle.ohg.proofs.ohg_cycle_breaking_nodes.Statement.{statement}
 use Rattle.ohg.proofs.ohg_cycle_breaking_nodes.Tie as tie
 
-cycle-breaking-nodes-requires : tie.Need-cycle-breaking-nodes-requires
-cycle-breaking-nodes-requires c κs = search needs
-
 pack-requires : tie.Need-pack-requires
 pack-requires c κs =
     let a = c .before .before .before .before .before .before .before .before .before .before .args in
     let t-src = below-each 256 (now (a .src)) (λ i l. omega (arith, c .before .before .before .before .before .before .before .before .before .shared-slice-known .given i)) in
     packs (cycle-breaking-nodes-ranged (now (a .src)) t-src (length (now (a .list))) (length (now (a .room)))) (c .before .before .before .before .cycle-breaking-nodes .ensures .result)
 
-same-length : tie.Need-same-length
-same-length c = search needs
-
-same-length-2 : tie.Need-same-length-2
-same-length-2 c = search needs
-
 returns : tie.Need-returns
 returns c = returns-of (c .before .before .before .before .before .cycle-breaking-nodes .ensures) (c .pack .ensures)
 
 pub ohg-cycle-breaking-nodes-spec : {M : Type 1} → statement M
-ohg-cycle-breaking-nodes-spec = tie.close (tie.spec cycle-breaking-nodes-requires pack-requires same-length same-length-2 returns)
+ohg-cycle-breaking-nodes-spec = tie.close (tie.spec (λ c κs. search needs) pack-requires (λ c. search needs) (λ c. search needs) returns)

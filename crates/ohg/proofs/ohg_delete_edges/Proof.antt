@@ -10,23 +10,14 @@ use Rattle.ohg.proofs.Ranges.{delete-edges-ranged}
 use Rattle.ohg.proofs.ohg_delete_edges.Statement.{statement}
 use Rattle.ohg.proofs.ohg_delete_edges.Tie as tie
 
-delete-edges-requires : tie.Need-delete-edges-requires
-delete-edges-requires c κs = search needs
-
 pack-requires : tie.Need-pack-requires
 pack-requires c κs =
     let a = c .before .before .before .before .before .before .before .before .before .before .before .args in
     let t-src = below-each 256 (now (a .src)) (λ i l. omega (arith, c .before .before .before .before .before .before .before .before .before .before .shared-slice-known .given i)) in
     packs (delete-edges-ranged (now (a .src)) t-src (length (now (a .out))) (now (a .ids)) (length (now (a .room)))) (c .before .before .before .before .delete-edges .ensures .result)
 
-same-length : tie.Need-same-length
-same-length c = search needs
-
-same-length-2 : tie.Need-same-length-2
-same-length-2 c = search needs
-
 returns : tie.Need-returns
 returns c = returns-of (c .before .before .before .before .before .delete-edges .ensures) (c .pack .ensures)
 
 pub ohg-delete-edges-spec : {M : Type 1} → statement M
-ohg-delete-edges-spec = tie.close (tie.spec delete-edges-requires pack-requires same-length same-length-2 returns)
+ohg-delete-edges-spec = tie.close (tie.spec (λ c κs. search needs) pack-requires (λ c. search needs) (λ c. search needs) returns)

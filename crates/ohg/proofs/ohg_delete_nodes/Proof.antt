@@ -10,26 +10,14 @@ use Rattle.ohg.proofs.Ranges.{delete-nodes-ranged}
 use Rattle.ohg.proofs.ohg_delete_nodes.Statement.{statement}
 use Rattle.ohg.proofs.ohg_delete_nodes.Tie as tie
 
-delete-nodes-requires : tie.Need-delete-nodes-requires
-delete-nodes-requires c κs = search needs
-
 pack-requires : tie.Need-pack-requires
 pack-requires c κs =
     let a = c .before .before .before .before .before .before .before .before .before .before .before .before .before .before .before .args in
     let t-src = below-each 256 (now (a .src)) (λ i l. omega (arith, c .before .before .before .before .before .before .before .before .before .before .before .before .before .before .shared-slice-known .given i)) in
     packs (delete-nodes-ranged (now (a .src)) t-src (length (now (a .out))) (now (a .ids)) (length (now (a .map))) (length (now (a .room)))) (c .before .before .before .before .before .before .delete-nodes .ensures .result)
 
-same-length : tie.Need-same-length
-same-length c = search needs
-
-same-length-2 : tie.Need-same-length-2
-same-length-2 c = search needs
-
-same-length-3 : tie.Need-same-length-3
-same-length-3 c = search needs
-
 returns : tie.Need-returns
 returns c = returns-map-of (c .before .before .before .before .before .before .before .delete-nodes .ensures) (c .pack .ensures)
 
 pub ohg-delete-nodes-spec : {M : Type 1} → statement M
-ohg-delete-nodes-spec = tie.close (tie.spec delete-nodes-requires pack-requires same-length same-length-2 same-length-3 returns)
+ohg-delete-nodes-spec = tie.close (tie.spec (λ c κs. search needs) pack-requires (λ c. search needs) (λ c. search needs) (λ c. search needs) returns)

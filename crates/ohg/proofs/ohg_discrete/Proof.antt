@@ -10,20 +10,14 @@ use Rattle.ohg.proofs.Ranges.{discrete-ranged}
 use Rattle.ohg.proofs.ohg_discrete.Statement.{statement}
 use Rattle.ohg.proofs.ohg_discrete.Tie as tie
 
-discrete-requires : tie.Need-discrete-requires
-discrete-requires c κs = search needs
-
 pack-requires : tie.Need-pack-requires
 pack-requires c κs =
     let a = c .before .before .before .before .before .before .args in
     let t-labels = below-each 256 (now (a .labels)) (λ i l. omega (arith, c .before .before .before .before .before .shared-slice-known .given i)) in
     packs (discrete-ranged (now (a .labels)) t-labels (length (now (a .out)))) (c .before .before .discrete .ensures .result)
 
-same-length : tie.Need-same-length
-same-length c = search needs
-
 returns : tie.Need-returns
 returns c = returns-of (c .before .before .before .discrete .ensures) (c .pack .ensures)
 
 pub ohg-discrete-spec : {M : Type 1} → statement M
-ohg-discrete-spec = tie.close (tie.spec discrete-requires pack-requires same-length returns)
+ohg-discrete-spec = tie.close (tie.spec (λ c κs. search needs) pack-requires (λ c. search needs) returns)

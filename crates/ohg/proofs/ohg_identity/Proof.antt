@@ -10,20 +10,14 @@ use Rattle.ohg.proofs.Ranges.{identity-ranged}
 use Rattle.ohg.proofs.ohg_identity.Statement.{statement}
 use Rattle.ohg.proofs.ohg_identity.Tie as tie
 
-identity-requires : tie.Need-identity-requires
-identity-requires c κs = search needs
-
 pack-requires : tie.Need-pack-requires
 pack-requires c κs =
     let a = c .before .before .before .before .before .before .args in
     let t-labels = below-each 256 (now (a .labels)) (λ i l. omega (arith, c .before .before .before .before .before .shared-slice-known .given i)) in
     packs (identity-ranged (now (a .labels)) t-labels (length (now (a .out)))) (c .before .before .identity .ensures .result)
 
-same-length : tie.Need-same-length
-same-length c = search needs
-
 returns : tie.Need-returns
 returns c = returns-of (c .before .before .before .identity .ensures) (c .pack .ensures)
 
 pub ohg-identity-spec : {M : Type 1} → statement M
-ohg-identity-spec = tie.close (tie.spec identity-requires pack-requires same-length returns)
+ohg-identity-spec = tie.close (tie.spec (λ c κs. search needs) pack-requires (λ c. search needs) returns)

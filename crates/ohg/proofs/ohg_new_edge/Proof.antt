@@ -10,20 +10,14 @@ use Rattle.ohg.proofs.Ranges.{new-edge-ranged}
 use Rattle.ohg.proofs.ohg_new_edge.Statement.{statement}
 use Rattle.ohg.proofs.ohg_new_edge.Tie as tie
 
-new-edge-requires : tie.Need-new-edge-requires
-new-edge-requires c κs = search needs
-
 pack-requires : tie.Need-pack-requires
 pack-requires c κs =
     let a = c .before .before .before .before .before .before .before .before .args in
     let t-src = below-each 256 (now (a .src)) (λ i l. omega (arith, c .before .before .before .before .before .before .before .shared-slice-known .given i)) in
     packs (new-edge-ranged (now (a .src)) t-src (length (now (a .out))) (a .label) (now (a .sources)) (now (a .targets)) (omega arith)) (c .before .before .new-edge .ensures .result)
 
-same-length : tie.Need-same-length
-same-length c = search needs
-
 returns : tie.Need-returns
 returns c = returns-of (c .before .before .before .new-edge .ensures) (c .pack .ensures)
 
 pub ohg-new-edge-spec : {M : Type 1} → statement M
-ohg-new-edge-spec = tie.close (tie.spec new-edge-requires pack-requires same-length returns)
+ohg-new-edge-spec = tie.close (tie.spec (λ c κs. search needs) pack-requires (λ c. search needs) returns)

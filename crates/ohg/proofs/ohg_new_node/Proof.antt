@@ -10,20 +10,14 @@ use Rattle.ohg.proofs.Ranges.{new-node-ranged}
 use Rattle.ohg.proofs.ohg_new_node.Statement.{statement}
 use Rattle.ohg.proofs.ohg_new_node.Tie as tie
 
-new-node-requires : tie.Need-new-node-requires
-new-node-requires c κs = search needs
-
 pack-requires : tie.Need-pack-requires
 pack-requires c κs =
     let a = c .before .before .before .before .before .before .args in
     let t-src = below-each 256 (now (a .src)) (λ i l. omega (arith, c .before .before .before .before .before .shared-slice-known .given i)) in
     packs (new-node-ranged (now (a .src)) t-src (length (now (a .out))) (a .label) (omega arith)) (c .before .before .new-node .ensures .result)
 
-same-length : tie.Need-same-length
-same-length c = search needs
-
 returns : tie.Need-returns
 returns c = returns-of (c .before .before .before .new-node .ensures) (c .pack .ensures)
 
 pub ohg-new-node-spec : {M : Type 1} → statement M
-ohg-new-node-spec = tie.close (tie.spec new-node-requires pack-requires same-length returns)
+ohg-new-node-spec = tie.close (tie.spec (λ c κs. search needs) pack-requires (λ c. search needs) returns)

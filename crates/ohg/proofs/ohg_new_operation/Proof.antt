@@ -10,9 +10,6 @@ use Rattle.ohg.proofs.Ranges.{new-operation-ranged}
 use Rattle.ohg.proofs.ohg_new_operation.Statement.{statement}
 use Rattle.ohg.proofs.ohg_new_operation.Tie as tie
 
-new-operation-requires : tie.Need-new-operation-requires
-new-operation-requires c κs = search needs
-
 pack-requires : tie.Need-pack-requires
 pack-requires c κs =
     let a = c .before .before .before .before .before .before .before .before .args in
@@ -21,11 +18,8 @@ pack-requires c κs =
     let t-targets = below-each 256 (now (a .targets)) (λ i l. omega (arith, c .before .before .before .before .before .shared-slice-known3 .given i)) in
     packs (new-operation-ranged (now (a .src)) t-src (length (now (a .out))) (a .label) (now (a .sources)) (now (a .targets)) (omega arith) t-sources t-targets) (c .before .before .new-operation .ensures .result)
 
-same-length : tie.Need-same-length
-same-length c = search needs
-
 returns : tie.Need-returns
 returns c = returns-of (c .before .before .before .new-operation .ensures) (c .pack .ensures)
 
 pub ohg-new-operation-spec : {M : Type 1} → statement M
-ohg-new-operation-spec = tie.close (tie.spec new-operation-requires pack-requires same-length returns)
+ohg-new-operation-spec = tie.close (tie.spec (λ c κs. search needs) pack-requires (λ c. search needs) returns)

@@ -11,17 +11,11 @@ use Rattle.ohg.proofs.Ranges.{no-loop-ranged}
 use Rattle.ohg.proofs.ohg_no_loop.Statement.{statement}
 use Rattle.ohg.proofs.ohg_no_loop.Tie as tie
 
-no-loop-requires : tie.Need-no-loop-requires
-no-loop-requires c κs = search needs
-
 pack-requires : tie.Need-pack-requires
 pack-requires c κs =
     let a = c .before .before .before .before .before .before .args in
     let t-src = below-each 256 (now (a .src)) (λ i l. omega (arith, c .before .before .before .before .before .shared-slice-known .given i)) in
     packs (no-loop-ranged (now (a .src)) t-src (length (now (a .room)))) (c .before .before .no-loop .ensures)
-
-same-length : tie.Need-same-length
-same-length c = search needs
 
 returns : tie.Need-returns
 returns c =
@@ -29,4 +23,4 @@ returns c =
     returned (noLoopCall (now (a .src)) (length (now (a .room)))) (c .before .before .before .no-loop .ensures) (c .pack .ensures)
 
 pub ohg-no-loop-spec : {M : Type 1} → statement M
-ohg-no-loop-spec = tie.close (tie.spec no-loop-requires pack-requires same-length returns)
+ohg-no-loop-spec = tie.close (tie.spec (λ c κs. search needs) pack-requires (λ c. search needs) returns)

@@ -9,16 +9,10 @@ use Rattle.ohg.proofs.Ranges.{once-fed-ranged}
 use Rattle.ohg.proofs.ohg_once_fed.Statement.{statement}
 use Rattle.ohg.proofs.ohg_once_fed.Tie as tie
 
-once-fed-requires : tie.Need-once-fed-requires
-once-fed-requires c κs = search needs
-
 pack-requires : tie.Need-pack-requires
 pack-requires c κs =
     let a = c .before .before .before .before .before .before .args in
     packs (once-fed-ranged (now (a .src)) (length (now (a .room)))) (c .before .before .once-fed .ensures)
-
-same-length : tie.Need-same-length
-same-length c = search needs
 
 returns : tie.Need-returns
 returns c =
@@ -26,4 +20,4 @@ returns c =
     returned (onceFedCall (now (a .src)) (length (now (a .room)))) (c .before .before .before .once-fed .ensures) (c .pack .ensures)
 
 pub ohg-once-fed-spec : {M : Type 1} → statement M
-ohg-once-fed-spec = tie.close (tie.spec once-fed-requires pack-requires same-length returns)
+ohg-once-fed-spec = tie.close (tie.spec (λ c κs. search needs) pack-requires (λ c. search needs) returns)

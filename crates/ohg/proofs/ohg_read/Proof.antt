@@ -10,20 +10,14 @@ use Rattle.ohg.proofs.Ranges.{read-ranged}
 use Rattle.ohg.proofs.ohg_read.Statement.{statement}
 use Rattle.ohg.proofs.ohg_read.Tie as tie
 
-read-sizes-requires : tie.Need-read-sizes-requires
-read-sizes-requires c κs = search needs
-
 pack-requires : tie.Need-pack-requires
 pack-requires c κs =
     let a = c .before .before .before .before .before .before .args in
     let t-src = below-each 256 (now (a .src)) (λ i l. omega (arith, c .before .before .before .before .before .shared-slice-known .given i)) in
     packs (read-ranged (now (a .src)) t-src (length (now (a .sizes)))) (c .before .before .read-sizes .ensures .result)
 
-same-length : tie.Need-same-length
-same-length c = search needs
-
 returns : tie.Need-returns
 returns c = returns-of (c .before .before .before .read-sizes .ensures) (c .pack .ensures)
 
 pub ohg-read-spec : {M : Type 1} → statement M
-ohg-read-spec = tie.close (tie.spec read-sizes-requires pack-requires same-length returns)
+ohg-read-spec = tie.close (tie.spec (λ c κs. search needs) pack-requires (λ c. search needs) returns)

@@ -10,20 +10,14 @@ use Rattle.ohg.proofs.Ranges.{rewrite-ranged}
 use Rattle.ohg.proofs.ohg_rewrite.Statement.{statement}
 use Rattle.ohg.proofs.ohg_rewrite.Tie as tie
 
-rewrite-requires : tie.Need-rewrite-requires
-rewrite-requires c κs = search needs
-
 pack-requires : tie.Need-pack-requires
 pack-requires c κs =
     let a = c .before .before .before .before .before .before .args in
     let t-src = below-each 256 (now (a .src)) (λ i l. omega (arith, c .before .before .before .before .before .shared-slice-known .given i)) in
     packs (rewrite-ranged (now (a .src)) t-src (length (now (a .out)))) (c .before .before .rewrite .ensures .result)
 
-same-length : tie.Need-same-length
-same-length c = search needs
-
 returns : tie.Need-returns
 returns c = returns-of (c .before .before .before .rewrite .ensures) (c .pack .ensures)
 
 pub ohg-rewrite-spec : {M : Type 1} → statement M
-ohg-rewrite-spec = tie.close (tie.spec rewrite-requires pack-requires same-length returns)
+ohg-rewrite-spec = tie.close (tie.spec (λ c κs. search needs) pack-requires (λ c. search needs) returns)

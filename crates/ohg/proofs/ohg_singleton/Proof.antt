@@ -10,9 +10,6 @@ use Rattle.ohg.proofs.Ranges.{singleton-ranged}
 use Rattle.ohg.proofs.ohg_singleton.Statement.{statement}
 use Rattle.ohg.proofs.ohg_singleton.Tie as tie
 
-singleton-requires : tie.Need-singleton-requires
-singleton-requires c κs = search needs
-
 pack-requires : tie.Need-pack-requires
 pack-requires c κs =
     let a = c .before .before .before .before .before .before .before .args in
@@ -20,11 +17,8 @@ pack-requires c κs =
     let t-targets = below-each 256 (now (a .targets)) (λ i l. omega (arith, c .before .before .before .before .before .shared-slice-known2 .given i)) in
     packs (singleton-ranged (a .label) (now (a .sources)) (now (a .targets)) (omega arith) t-sources t-targets (length (now (a .out)))) (c .before .before .singleton .ensures .result)
 
-same-length : tie.Need-same-length
-same-length c = search needs
-
 returns : tie.Need-returns
 returns c = returns-of (c .before .before .before .singleton .ensures) (c .pack .ensures)
 
 pub ohg-singleton-spec : {M : Type 1} → statement M
-ohg-singleton-spec = tie.close (tie.spec singleton-requires pack-requires same-length returns)
+ohg-singleton-spec = tie.close (tie.spec (λ c κs. search needs) pack-requires (λ c. search needs) returns)

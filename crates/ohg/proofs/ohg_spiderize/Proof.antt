@@ -10,23 +10,14 @@ use Rattle.ohg.proofs.Ranges.{spiderize-ranged}
 use Rattle.ohg.proofs.ohg_spiderize.Statement.{statement}
 use Rattle.ohg.proofs.ohg_spiderize.Tie as tie
 
-spiderize-requires : tie.Need-spiderize-requires
-spiderize-requires c κs = search needs
-
 pack-requires : tie.Need-pack-requires
 pack-requires c κs =
     let a = c .before .before .before .before .before .before .before .before .before .before .args in
     let t-src = below-each 256 (now (a .src)) (λ i l. omega (arith, c .before .before .before .before .before .before .before .before .before .shared-slice-known .given i)) in
     packs (spiderize-ranged (now (a .src)) t-src (length (now (a .out))) (length (now (a .room)))) (c .before .before .before .before .spiderize .ensures .result)
 
-same-length : tie.Need-same-length
-same-length c = search needs
-
-same-length-2 : tie.Need-same-length-2
-same-length-2 c = search needs
-
 returns : tie.Need-returns
 returns c = returns-of (c .before .before .before .before .before .spiderize .ensures) (c .pack .ensures)
 
 pub ohg-spiderize-spec : {M : Type 1} → statement M
-ohg-spiderize-spec = tie.close (tie.spec spiderize-requires pack-requires same-length same-length-2 returns)
+ohg-spiderize-spec = tie.close (tie.spec (λ c κs. search needs) pack-requires (λ c. search needs) (λ c. search needs) returns)

@@ -10,20 +10,14 @@ use Rattle.ohg.proofs.Ranges.{unify-ranged}
 use Rattle.ohg.proofs.ohg_unify.Statement.{statement}
 use Rattle.ohg.proofs.ohg_unify.Tie as tie
 
-unify-requires : tie.Need-unify-requires
-unify-requires c κs = search needs
-
 pack-requires : tie.Need-pack-requires
 pack-requires c κs =
     let a = c .before .before .before .before .before .before .args in
     let t-src = below-each 256 (now (a .src)) (λ i l. omega (arith, c .before .before .before .before .before .shared-slice-known .given i)) in
     packs (unify-ranged (now (a .src)) t-src (length (now (a .out))) (a .v) (a .w)) (c .before .before .unify .ensures .result)
 
-same-length : tie.Need-same-length
-same-length c = search needs
-
 returns : tie.Need-returns
 returns c = returns-of (c .before .before .before .unify .ensures) (c .pack .ensures)
 
 pub ohg-unify-spec : {M : Type 1} → statement M
-ohg-unify-spec = tie.close (tie.spec unify-requires pack-requires same-length returns)
+ohg-unify-spec = tie.close (tie.spec (λ c κs. search needs) pack-requires (λ c. search needs) returns)

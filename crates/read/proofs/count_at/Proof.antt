@@ -10,9 +10,6 @@ use Rattle.le.specs.Rows.{entry}
 use Rattle.read.proofs.count_at.Statement.{statement}
 use Rattle.read.proofs.count_at.Tie as tie
 
-number-requires : tie.Need-number-requires
-number-requires c κs = search needs
-
 returns : tie.Need-returns
 unfolding entry
 returns c =
@@ -21,4 +18,4 @@ returns c =
     (c .number .ensures .0 ∙ ap (numberAt (a .width) (now (a .s))) e, c .number .ensures .1)
 
 pub count-at-spec : {M : Type 1} → statement M
-count-at-spec = tie.close (tie.spec number-requires returns)
+count-at-spec = tie.close (tie.spec (λ c κs. search needs) returns)

@@ -13,12 +13,9 @@ use Rattle.read.proofs.format_numbered.Tie as tie
 returns : tie.Need-returns
 returns c = sym (ap versioned (format-3 _ (c .if1 .taken)))
 
-form1-requires : tie.Need-form1-requires
-form1-requires c κs = search needs
-
 returns-2 : tie.Need-returns-2
 unfolding formatNumbered
 returns-2 c = ap Is (ap coded (c .form1 .ensures)) ∙ rw (eq-eqb _ _ (c .before .if1 .left))
 
 pub format-numbered-spec : {M : Type 1} → statement M
-format-numbered-spec = tie.close (tie.spec returns form1-requires returns-2)
+format-numbered-spec = tie.close (tie.spec returns (λ c κs. search needs) returns-2)

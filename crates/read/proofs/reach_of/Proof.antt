@@ -20,15 +20,6 @@ returns c =
     let none : a .n ≡ 0 = c .if1 .taken in
     omega (arith, ap (λ (n : ℕ). reach (numbers (a .width) n (drop (a .at) (now (a .s))))) none)
 
-highest-of-requires : tie.Need-highest-of-requires
-highest-of-requires c κs = search needs
-
-cast-above : tie.Need-cast-above
-cast-above c = search needs
-
-above-requires : tie.Need-above-requires
-above-requires c κs = search needs
-
 returns-2 : tie.Need-returns-2
 unfolding span
 returns-2 c =
@@ -42,4 +33,4 @@ returns-2 c =
 
 pub reach-of-spec : {M : Type 1} → statement M
 reach-of-spec =
-    tie.close (tie.spec returns highest-of-requires cast-above above-requires returns-2)
+    tie.close (tie.spec returns (λ c κs. search needs) (λ c. search needs) (λ c κs. search needs) returns-2)

@@ -34,12 +34,6 @@ add-if1 c = let l = wide-some (c .before .before .pre) in omega arith
 returns : tie.Need-returns
 returns c = let a = c .before .before .before .args in sym (ap (headerRead (a .f .width)) (header-5 (meant (a .f)) (now (a .s)) (omega arith)))
 
-counts-at-requires : tie.Need-counts-at-requires
-counts-at-requires c κs = search needs
-
-counts-fit-requires : tie.Need-counts-fit-requires
-counts-fit-requires c κs = search needs
-
 returns-2 : tie.Need-returns-2
 returns-2 c =
     let a = c .before .before .before .before .before .before .args in
@@ -54,4 +48,4 @@ returns-3 c =
 pub read-counts-spec : {M : Type 1} → statement M
 read-counts-spec =
     tie.close
-    (tie.spec mul-if1 add-if1 returns counts-at-requires counts-fit-requires returns-2 returns-3)
+    (tie.spec mul-if1 add-if1 returns (λ c κs. search needs) (λ c κs. search needs) returns-2 returns-3)

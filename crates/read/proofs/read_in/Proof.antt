@@ -21,15 +21,6 @@ sizes c = c .head .given .0 .0
 counts : (c : tie.After-head) → let a = c .before .before .before .before .args in readCounts (meant (a .f)) (now (a .s)) ≡ answered (countsOf (sizes c))
 counts c = head-read _ _ (sizes c) (sym (c .head .given .1) ∙ c .before .before .read-counts .ensures)
 
-read-counts-requires : tie.Need-read-counts-requires
-read-counts-requires c κs = search needs
-
-enum-known-head : tie.Need-enum-known-head
-enum-known-head c = search needs
-
-enum-told : tie.Need-enum-told
-enum-told c = search needs
-
 returns : tie.Need-returns
 unfolding readIn
 returns c =
@@ -50,4 +41,4 @@ returns-2 c = c .read-body .ensures ∙ sym (ap (measured (c .before .before .be
 pub read-in-spec : {M : Type 1} → statement M
 read-in-spec =
     tie.close
-    (tie.spec read-counts-requires enum-known-head enum-told returns read-body-requires returns-2)
+    (tie.spec (λ c κs. search needs) (λ c. search needs) (λ c. search needs) returns read-body-requires returns-2)

@@ -14,17 +14,8 @@ use Rattle.read.proofs.read_version.Tie as tie
 returns : tie.Need-returns
 returns c = sym (ap numbered (version-1 (now (c .before .before .args .s)) (omega arith)))
 
-marked-requires : tie.Need-marked-requires
-marked-requires c κs = search needs
-
 returns-2 : tie.Need-returns-2
 returns-2 c = sym (ap numbered (version-2 (now (c .before .before .before .before .args .s)) (omega arith) (sym (c .before .marked .ensures) ∙ not-true _ (c .if2 .taken))))
-
-get2-requires : tie.Need-get2-requires
-get2-requires c κs = search needs
-
-cast-t2 : tie.Need-cast-t2
-cast-t2 c = search needs
 
 returns-3 : tie.Need-returns-3
 returns-3 c =
@@ -33,4 +24,4 @@ returns-3 c =
 
 pub read-version-spec : {M : Type 1} → statement M
 read-version-spec =
-    tie.close (tie.spec returns marked-requires returns-2 get2-requires cast-t2 returns-3)
+    tie.close (tie.spec returns (λ c κs. search needs) returns-2 (λ c κs. search needs) (λ c. search needs) returns-3)

@@ -21,9 +21,6 @@ put-two-requires-2 c κs = (record { wide = inr refl; inside = omega arith }, om
 put-two-requires-3 : tie.Need-put-two-requires-3
 put-two-requires-3 c κs = (record { wide = inr refl; inside = omega arith }, omega arith, omega arith)
 
-same-length : tie.Need-same-length
-same-length c = search needs
-
 returns : tie.Need-returns
 returns c =
     let a = c .before .before .before .before .before .before .before .before .before .before .before .before .before .args in
@@ -39,4 +36,4 @@ returns c =
 
 pub put-sizes-spec : {M : Type 1} → statement M
 put-sizes-spec =
-    tie.close (tie.spec put-two-requires put-two-requires-2 put-two-requires-3 same-length returns)
+    tie.close (tie.spec put-two-requires put-two-requires-2 put-two-requires-3 (λ c. search needs) returns)

@@ -57,12 +57,6 @@ few c =
 add-count : tie.Need-add-count Inv-loop μ-loop
 add-count c = let m = met (c .before .before) in omega (arith, few c, c .before .before .before .before .loop .inv .3, m .first, holds-index (m .ids .held))
 
-add-i : tie.Need-add-i Inv-loop μ-loop
-add-i c = omega arith
-
-loop-less : tie.Need-loop-less Inv-loop μ-loop
-loop-less c = omega arith
-
 loop-again : tie.Need-loop-again Inv-loop μ-loop
 loop-again c =
     let a = c .before .before .before .before .before .before .before .before .args in
@@ -91,7 +85,7 @@ count-edges-spec =
     add-count-part
     count-part-requires
     add-count
-    add-i
-    loop-less
+    (λ c. omega arith)
+    (λ c. omega arith)
     loop-again
     returns)

@@ -52,15 +52,6 @@ one-if-listed-requires c κs =
     let e : c .number .result ≡ entry (now (a .src)) (c .before .before .before .body-row .result) (a .j + l .i) = c .number .ensures .0 in
     omega arith
 
-add-count : tie.Need-add-count Inv-loop μ-loop
-add-count c = omega arith
-
-add-i : tie.Need-add-i Inv-loop μ-loop
-add-i c = omega arith
-
-loop-less : tie.Need-loop-less Inv-loop μ-loop
-loop-less c = omega arith
-
 loop-again : tie.Need-loop-again Inv-loop μ-loop
 loop-again c =
     let a = c .before .before .before .before .before .before .before .args in
@@ -99,8 +90,8 @@ count-part-spec =
     add-number
     number-requires
     one-if-listed-requires
-    add-count
-    add-i
-    loop-less
+    (λ c. omega arith)
+    (λ c. omega arith)
+    (λ c. omega arith)
     loop-again
     returns)

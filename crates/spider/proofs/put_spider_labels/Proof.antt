@@ -31,12 +31,6 @@ put-number-requires c κs =
     let l = c .before .before .loop in
     (holds-same (holds-less (c .before .before .before .before .pre) _ (omega arith)) (l .out) (ap length (l .inv .1) ∙ length-puts (now (a .out)) (a .r) (a .k) (replicate (l .i) spider)), omega arith)
 
-add-i : tie.Need-add-i Inv-loop μ-loop
-add-i c = omega arith
-
-loop-less : tie.Need-loop-less Inv-loop μ-loop
-loop-less c = omega arith
-
 loop-again : tie.Need-loop-again Inv-loop μ-loop
 loop-again c =
     let a = c .before .before .before .before .before .before .before .args in
@@ -65,8 +59,8 @@ put-spider-labels-spec =
     loop-holds
     add-put-number
     put-number-requires
-    add-i
-    loop-less
+    (λ c. omega arith)
+    (λ c. omega arith)
     loop-again
     same-length
     returns)

@@ -7,8 +7,7 @@ use lib.ListN.{length}
 use denote.Ref.{now}
 use Rattle.form.specs.Form.{meantBy}
 use Rattle.form.specs.Stored.{graphOf, formatOf}
-use Rattle.form.specs.declared.Sizes.{Sizes}
-use Rattle.form.proofs.Answers.{list-refused, test-refused}
+use Rattle.form.proofs.Answers.{test-refused}
 use Rattle.form.proofs.Stored.{stored-rows}
 use Rattle.graph.specs.Answer.{Answer, answered}
 use Rattle.graph.specs.Calls.{Next, idList, unpaired, spiderizeStep}
@@ -19,7 +18,9 @@ use Rattle.links.specs.Links.{cells, isListed, Linked}
 use Rattle.write.proofs.Calls.{gives-by}
 use Rattle.spider.proofs.Parts.{heads-held}
 use Rattle.le.specs.Rows.{rowAt, span}
-use Rattle.spider.proofs.Calls.{Opened, opened, short, unreadable, stopped, Given, given, none-paired, step-7, step-8, step-0, listed-ids}
+use Rattle.form.proofs.Listed.{Given, ids-given, ids-refused, ids-below}
+use Rattle.le.specs.Le.{Below}
+use Rattle.spider.proofs.Calls.{Opened, opened, short, unreadable, stopped, none-paired, step-7, step-8, step-0, listed-ids}
 use borrow.Author.Needs.{needs}
 use native.Mathlib.Omega.{arith}
 use Rattle.spider.proofs.spiderize_nodes.Statement.{statement}
@@ -44,9 +45,6 @@ returns-2 c = let S = c .before .before .before .before .before .before .before 
 id-list-requires : tie.Need-id-list-requires
 id-list-requires c κs = stored-rows (form c .form) .low .width
 
-width : (c : tie.After-known-told) → formatOf (now (c .before .before .before .before .before .before .before .before .before .before .before .args .src)) .width ≡ c .before .graph .given .0 .0 .width
-width c = sym (ap (λ (y : Sizes). y .width) (form c .form .sizes))
-
 returns-3 : tie.Need-returns-3
 returns-3 c =
     let S = c .before .before .before .before .before .before .before .before .before .before .before .before .before .before .before in
@@ -54,7 +52,7 @@ returns-3 c =
     let x = c .before .enum-told4 .given in
     let l = c .before .before .before .id-list in
     let o = form (c .before .before .before .before) in
-    let e = list-refused _ (l .result) (l .ensures (formatOf b) (width (c .before .before .before .before))) (x .0 .0) (x .1) in
+    let e = ids-refused (o .form) _ _ (l .result) (l .ensures) (x .0 .0) (x .1) in
     stopped o (next S) (now (S .args .out)) (x .1) (c .refusal3 .ensures)
     (step-7 (formatOf b) (now (S .args .ids)) (graphOf b) (meantBy (x .0 .0)) (ap (λ (n : ℕ). idList (formatOf b) n (now (S .args .ids))) (sym (o .nodes)) ∙ e))
 
@@ -62,15 +60,14 @@ returns-3 c =
 abbrev chosen : tie.After-known-told2 → List ℕ
 chosen c = span (now (c .before .before .before .before .before .before .before .before .before .before .before .before .before .before .before .args .ids)) (rowAt 0 (c .before .before .before .before .before .graph .given .0 .0 .width)) 0 (c .before .list .given .0 .0)
 
-list : (c : tie.After-known-told2) → Given (formatOf (now (c .before .before .before .before .before .before .before .before .before .before .before .before .before .before .before .args .src))) (c .before .before .before .before .before .graph .given .0 .0 .nodes) (c .before .before .before .before .before .graph .given .0 .0 .width) (now (c .before .before .before .before .before .before .before .before .before .before .before .before .before .before .before .args .ids)) (c .before .list .given .0 .0)
-list c =
-    let z = c .before .before .before .before .before .graph .given .0 .0 in
-    let f = formatOf (now (c .before .before .before .before .before .before .before .before .before .before .before .before .before .before .before .args .src)) in
-    let l = c .before .before .before .id-list in
-    given f (z .nodes) (z .width) (now (c .before .before .before .before .before .before .before .before .before .before .before .before .before .before .before .args .ids)) (stored-rows (form (c .before .before .before .before) .form) .low .width) (width (c .before .before .before .before)) (l .result) (l .ensures f (width (c .before .before .before .before))) _ (c .before .list .given .1)
+list : (c : tie.After-known-told2) → Given (idList (formatOf (now (c .before .before .before .before .before .before .before .before .before .before .before .before .before .before .before .args .src))) (c .before .before .before .before .before .graph .given .0 .0 .nodes) (now (c .before .before .before .before .before .before .before .before .before .before .before .before .before .before .before .args .ids))) (now (c .before .before .before .before .before .before .before .before .before .before .before .before .before .before .before .args .ids)) (c .before .before .before .before .before .graph .given .0 .0 .width) (c .before .list .given .0 .0)
+list c = let l = c .before .before .before .id-list in ids-given (form (c .before .before .before .before) .form) _ _ (l .result) (l .ensures) _ (c .before .list .given .1)
+
+known : (c : tie.After-known-told2) → Below (c .before .before .before .before .before .graph .given .0 .0 .nodes) (chosen c)
+known c = let l = c .before .before .before .id-list in ids-below (form (c .before .before .before .before) .form) _ _ (l .result) (l .ensures) _ (c .before .list .given .1)
 
 is-list : (c : tie.After-known-told2) → idList (formatOf (now (c .before .before .before .before .before .before .before .before .before .before .before .before .before .before .before .args .src))) (length (graphOf (now (c .before .before .before .before .before .before .before .before .before .before .before .before .before .before .before .args .src)) .labels)) (now (c .before .before .before .before .before .before .before .before .before .before .before .before .before .before .before .args .ids)) ≡ answered (chosen c)
-is-list c = let a = c .before .before .before .before .before .before .before .before .before .before .before .before .before .before .before .args in ap (λ (n : ℕ). idList (formatOf (now (a .src))) n (now (a .ids))) (sym (form (c .before .before .before .before) .nodes)) ∙ list c .is
+is-list c = let a = c .before .before .before .before .before .before .before .before .before .before .before .before .before .before .before .args in ap (λ (n : ℕ). idList (formatOf (now (a .src))) n (now (a .ids))) (sym (form (c .before .before .before .before) .nodes)) ∙ list c .answers
 
 returns-4 : tie.Need-returns-4
 returns-4 c =
@@ -90,14 +87,14 @@ list-ids-requires : tie.Need-list-ids-requires
 list-ids-requires c κs =
     let l = list (c .before .before .before .before .before .before .before .before) in
     let o = form (c .before .before .before .before .before .before .before .before .before .before .before .before) in
-    (l .held, l .below, heads-held (o .form) (c .before .before .before .list-none .last .0) (omega (arith, o .roomy, c .before .before .before .list-none .kept .0)))
+    (l .there, known (c .before .before .before .before .before .before .before .before), heads-held (o .form) (c .before .before .before .list-none .last .0) (omega (arith, o .roomy, c .before .before .before .list-none .kept .0)))
 
 -- no pair is pending, and the table lists the nodes of the list
 none : (c : tie.After-enum-told5) → length (graphOf (now (c .before .before .before .before .before .before .before .before .before .before .before .before .before .before .before .before .before .before .args .src)) .pairs) ≡ 0
 none c = let g = graphOf (now (c .before .before .before .before .before .before .before .before .before .before .before .before .before .before .before .before .before .before .args .src)) in let u = c .before .before .unpaired in none-paired g (u .result) (u .ensures g (form (c .before .before .before .before .before .before .before) .pairs)) _ (c .enum-told5 .given .1)
 
 listed : (c : tie.After-list-ids) → (isListed (c .before .before .before .before .before .before .before .before .before .before .before .before .before .before .graph .given .0 .0 .nodes) (cells (c .list-ids .last .0)) ≡ among (chosen (c .before .before .before .before .before .before .before .before .before))) × Linked (c .before .before .before .before .before .before .before .before .before .before .before .before .before .before .graph .given .0 .0 .nodes) (cells (c .list-ids .last .0)) (c .before .before .before .before .before .before .before .before .before .before .before .before .before .before .graph .given .0 .0 .nodes) (λ k x. [])
-listed c = listed-ids (c .before .before .before .before .before .before .before .before .before .before .before .before .before .before .graph .given .0 .0 .nodes) (cells (c .list-ids .last .0)) (chosen (c .before .before .before .before .before .before .before .before .before)) (list (c .before .before .before .before .before .before .before .before .before) .below) (c .list-ids .ensures (c .before .before .before .before .list-none .ensures))
+listed c = listed-ids (c .before .before .before .before .before .before .before .before .before .before .before .before .before .before .graph .given .0 .0 .nodes) (cells (c .list-ids .last .0)) (chosen (c .before .before .before .before .before .before .before .before .before)) (known (c .before .before .before .before .before .before .before .before .before)) (c .list-ids .ensures (c .before .before .before .before .list-none .ensures))
 
 write-spiderized-requires : tie.Need-write-spiderized-requires
 write-spiderized-requires c κs =

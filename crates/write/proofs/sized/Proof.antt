@@ -9,9 +9,6 @@ use Rattle.write.specs.Write.{countedAs}
 use Rattle.write.proofs.sized.Statement.{statement}
 use Rattle.write.proofs.sized.Tie as tie
 
-form1-requires : tie.Need-form1-requires
-form1-requires c κs = search needs
-
 returns : tie.Need-returns
 unfolding fittingSizes
 returns c =
@@ -19,4 +16,4 @@ returns c =
     ap (λ (f : Format). sized (f .width) (countedAs (a .nodes) (a .edges) (a .sources) (a .targets) (a .pairs)) (a .ports)) (c .form1 .ensures)
 
 pub sized-spec : {M : Type 1} → statement M
-sized-spec = tie.close (tie.spec form1-requires returns)
+sized-spec = tie.close (tie.spec (λ c κs. search needs) returns)

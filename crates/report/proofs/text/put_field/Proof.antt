@@ -6,15 +6,6 @@ use Rattle.report.proofs.Texts.{printed-then}
 use Rattle.report.proofs.text.put_field.Statement.{statement}
 use Rattle.report.proofs.text.put_field.Tie as tie
 
-put-text-requires : tie.Need-put-text-requires
-put-text-requires c κs = search needs
-
-put-number-requires : tie.Need-put-number-requires
-put-number-requires c κs = search needs
-
-same-length : tie.Need-same-length
-same-length c = search needs
-
 returns : tie.Need-returns
 returns c =
     let number = c .before .before in
@@ -23,4 +14,4 @@ returns c =
     (printed-then (a .word .now) (decimal (a .n)) (text .put-text .ensures) (number .put-number .ensures .0), search needs)
 
 pub put-field-spec : {M : Type 1} → statement M
-put-field-spec = tie.close (tie.spec put-text-requires put-number-requires same-length returns)
+put-field-spec = tie.close (tie.spec (λ c κs. search needs) (λ c κs. search needs) (λ c. search needs) returns)

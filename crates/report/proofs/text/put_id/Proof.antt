@@ -6,18 +6,6 @@ use Rattle.report.proofs.Texts.{printed-then}
 use Rattle.report.proofs.text.put_id.Statement.{statement}
 use Rattle.report.proofs.text.put_id.Tie as tie
 
-put-number-requires : tie.Need-put-number-requires
-put-number-requires c κs = search needs
-
-slice-aggregate-put-text : tie.Need-slice-aggregate-put-text
-slice-aggregate-put-text c = search needs
-
-put-text-requires : tie.Need-put-text-requires
-put-text-requires c κs = search needs
-
-same-length : tie.Need-same-length
-same-length c = search needs
-
 returns : tie.Need-returns
 returns c =
     let end = c .before .before in
@@ -28,4 +16,4 @@ returns c =
 pub put-id-spec : {M : Type 1} → statement M
 put-id-spec =
     tie.close
-    (tie.spec put-number-requires slice-aggregate-put-text put-text-requires same-length returns)
+    (tie.spec (λ c κs. search needs) (λ c. search needs) (λ c κs. search needs) (λ c. search needs) returns)

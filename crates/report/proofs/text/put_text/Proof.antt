@@ -6,15 +6,6 @@ use borrow.Author.Needs.{needs}
 use Rattle.report.proofs.text.put_text.Statement.{statement}
 use Rattle.report.proofs.text.put_text.Tie as tie
 
-copy-requires : tie.Need-copy-requires
-copy-requires c κs = search needs
-
-add-result : tie.Need-add-result
-add-result c = search needs
-
-same-length : tie.Need-same-length
-same-length c = search needs
-
 returns : tie.Need-returns
 returns c =
     let d = c .before .before .before .before .before .before .args in
@@ -24,4 +15,4 @@ returns c =
     }
 
 pub put-text-spec : {M : Type 1} → statement M
-put-text-spec = tie.close (tie.spec copy-requires add-result same-length returns)
+put-text-spec = tie.close (tie.spec (λ c κs. search needs) (λ c. search needs) (λ c. search needs) returns)
