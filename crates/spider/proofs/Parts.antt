@@ -20,7 +20,7 @@ use Rattle.le.specs.Rows.{span, puts}
 use Rattle.le.specs.declared.Row.{Row}
 use Rattle.links.specs.Links.{cells, cellCount, isListed, Linked, spiderRow, bothRows, spiders}
 use Rattle.write.specs.Write.{countedAs, fitted, headed, drawn, Put, Room}
-use Rattle.spider.specs.Rewriting.{idsAt, Ids, labelled, Fresh, more, moreTwo, moreEdges, Pass, Ready, spidered, fronted, Plan}
+use Rattle.spider.specs.Rewriting.{idsAt, Ids, labelled, Fresh, more, moreTwo, moreEdges, Pass, Prepared, spidered, fronted, Plan}
 use Rattle.graph.proofs.Laws.{joined-append}
 use Rattle.graph.proofs.Rows.{length-edge-rows}
 use Rattle.graph.proofs.Spiders.{after-append}
@@ -168,7 +168,7 @@ planned {b} {z} {y} {room} p =
 module _ {b : List ℕ} {z y : Sizes} {room old : List ℕ} (p : Plan b z y room) (buffer : Room old y) where
   pub plan-ready : {j n k : ℕ} (xs : List ℕ) {ns room′ out : List ℕ} {step : Fresh → Fresh} {next : ℕ} → Pass (isListed (z .nodes) (cells room)) (z .nodes) (z .nodes) (cells room) old (graphOf b) y 0 xs ns step (cells room′) out next
       → Ids b z j n → length (keep (isListed (z .nodes) (cells room)) xs) + length (keep (isListed (z .nodes) (cells room)) (idsAt b z j n)) ≤ length (keep (isListed (z .nodes) (cells room)) (entries (graphOf b))) → k + n ≤ bodySize y
-      → length room′ ≡ length room → (new : List ℕ) → length new ≡ length old → Ready b z y j n k next room′ new
+      → length room′ ≡ length room → (new : List ℕ) → length new ≡ length old → Prepared b z y j n k next room′ new
   plan-ready {j} {n} xs {room′ = room′} pass ids few held e new d = record {
     ids = ids;
     numbered = numbered-part xs (idsAt b z j n) pass (p .numbered) (omega (arith, planned p .nodes)) room′ e;

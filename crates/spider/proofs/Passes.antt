@@ -17,7 +17,7 @@ use Rattle.graph.specs.Lists.{keep, joined}
 use Rattle.graph.specs.Spider.{freshened, after, freshenedEdges, entriesOf}
 use Rattle.le.specs.Rows.{span, puts}
 use Rattle.links.specs.Links.{cells, unlisted, isListed, Linked, linkedTo}
-use Rattle.spider.specs.Rewriting.{idsAt, labelled, Fresh, more, kindAt, moreTwo, moreEdges, Pass, Rewrites, Numbered, Ready}
+use Rattle.spider.specs.Rewriting.{idsAt, labelled, Fresh, more, kindAt, moreTwo, moreEdges, Pass, Rewrites, Numbered, Prepared}
 use Rattle.graph.proofs.Laws.{joined-append}
 use Rattle.graph.proofs.Spiders.{after-append}
 use Rattle.le.proofs.Rows.{length-span, puts-none, puts-append}
@@ -200,7 +200,7 @@ kind-low first a b i la lb = go (ltb i first)
     go true = la
     go false = lb
 
-module _ {b : List ℕ} {z y : Sizes} {j n k start : ℕ} {room₀ out₀ : List ℕ} (h : Ready b z y j n k start room₀ out₀) (first a c : ℕ) where
+module _ {b : List ℕ} {z y : Sizes} {j n k start : ℕ} {room₀ out₀ : List ℕ} (h : Prepared b z y j n k start room₀ out₀) (first a c : ℕ) where
   pub passed-none : Passed b z y j n k first a c start room₀ out₀ 0 room₀ out₀ start
   unfolding span
   passed-none = record {
@@ -211,7 +211,7 @@ module _ {b : List ℕ} {z y : Sizes} {j n k start : ℕ} {room₀ out₀ : List
   }
 
   module _ {i : ℕ} {room out : List ℕ} {next : ℕ} (p : Passed b z y j n k first a c start room₀ out₀ i room out next) where
-    pub passed-ready : i < n → Ready b z y (j + i) 1 (k + i) next room out
+    pub passed-ready : i < n → Prepared b z y (j + i) 1 (k + i) next room out
     passed-ready l = record {
       ids = ids-part b z j n i 1 (omega arith) (h .ids);
       numbered = numbered-part (idsAt b z j i) (idsAt b z (j + i) 1) (p .pass) (h .numbered) (omega (arith, kept-within b z j n i 1 (omega arith) (isListed (z .nodes) (cells room₀)))) room (p .same-room);

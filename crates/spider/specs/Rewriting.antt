@@ -80,7 +80,7 @@ pub record Numbered (nodes all start end : ℕ) (room : List ℕ) : Type 0 where
   pub links : nodes * 3 + end ≤ cellCount room
 
 -- what such a pass needs: ids to rewrite, and room for all that it writes
-pub record Ready (b : List ℕ) (z y : Sizes) (j n k start : ℕ) (room out : List ℕ) : Type 0 where
+pub record Prepared (b : List ℕ) (z y : Sizes) (j n k start : ℕ) (room out : List ℕ) : Type 0 where
   pub ids : Ids b z j n
   pub numbered : Numbered (z .nodes) (y .nodes) start (after (isListed (z .nodes) (cells room)) start (idsAt b z j n)) room
   pub buffer : Room out y

@@ -16,7 +16,7 @@ ghost use Rattle.form.specs.Form.{labelsOf, bodyOf, listsFrom, Gives};
 ghost use Rattle.form.specs.Stored.{graphOf, formatOf, Stored};
 ghost use Rattle.write.specs.Write.{Room};
 ghost use Rattle.links.specs.Links.{cells, cellCount, isListed, Linked};
-ghost use Rattle.spider.specs.Rewriting.{idsAt, Ids, labelled, more, kindAt, moreTwo, moreEdges, Pass, Rewrites, Ready, spidered, fronted, Plan};
+ghost use Rattle.spider.specs.Rewriting.{idsAt, Ids, labelled, more, kindAt, moreTwo, moreEdges, Pass, Rewrites, Prepared, spidered, fronted, Plan};
 use form::EdgeAt;
 use form::Outcome;
 use form::Reading;
@@ -84,7 +84,7 @@ fn rewrite_entry(
     out: &mut [u8],
     k: usize,
 ) -> usize
-    requires { ⌜ Ready (now src) z y j 1 k next (now room) (now out) × (kind < 4) ⌝ }
+    requires { ⌜ Prepared (now src) z y j 1 k next (now room) (now out) × (kind < 4) ⌝ }
     ensures { λ n. ⌜ Rewrites (now (src .entry)) z y j 1 k (more kind) next (now (room .entry)) (now (out .entry)) (now (room .exit)) (now (out .exit)) n ⌝ }
 {
     let id = le::number(src, form::body_row(z), j);
@@ -117,7 +117,7 @@ fn rewrite_edge(
     room: &mut [u8],
     out: &mut [u8],
 ) -> usize
-    requires { ⌜ Ready (now src) z y (e .first) (e .sources + e .targets) (e .first) start (now room) (now out) ⌝ }
+    requires { ⌜ Prepared (now src) z y (e .first) (e .sources + e .targets) (e .first) start (now room) (now out) ⌝ }
     ensures { λ next. ⌜ Rewrites (now (src .entry)) z y (e .first) (e .sources + e .targets) (e .first) (moreTwo (e .sources) 1 2) start (now (room .entry)) (now (out .entry)) (now (room .exit)) (now (out .exit)) next ⌝ }
 {
     let mut next = start;
@@ -158,7 +158,7 @@ fn rewrite_lists(
     room: &mut [u8],
     out: &mut [u8],
 ) -> usize
-    requires { ⌜ Ready (now src) z y (listsFrom z) (z .sources + z .targets) (listsFrom y) start (now room) (now out) ⌝ }
+    requires { ⌜ Prepared (now src) z y (listsFrom z) (z .sources + z .targets) (listsFrom y) start (now room) (now out) ⌝ }
     ensures { λ next. ⌜ Rewrites (now (src .entry)) z y (listsFrom z) (z .sources + z .targets) (listsFrom y) (moreTwo (z .sources) 0 3) start (now (room .entry)) (now (out .entry)) (now (room .exit)) (now (out .exit)) next ⌝ }
 {
     let from = 2 * z.edges + z.ports;
