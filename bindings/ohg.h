@@ -66,8 +66,8 @@ enum ohg_refusal {
 #define OHG_ROOM_DELETE_NODES 2048
 #define OHG_ROOM_SPIDERIZE 16384
 #define OHG_ROOM_SPIDERIZE_NODES 16384
-#define OHG_ROOM_CYCLE_BREAKING_NODES 466944
-#define OHG_ROOM_NO_LOOP 303104
+#define OHG_ROOM_CYCLE_BREAKING_NODES 172048
+#define OHG_ROOM_NO_LOOP 147472
 #define OHG_ROOM_ONCE_FED 2048
 
 /* Reads a stored graph and answers its sizes: six 4-byte little-endian numbers, nodes, edges, ports, global sources, global

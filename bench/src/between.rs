@@ -1,7 +1,8 @@
 //! Two builds of the port beside each other, in one process: an earlier one and a newer one, each as a shared library, so
 //! that the same names can stand in both.
 
-use crate::drawings::{every_eighth, label_bytes};
+use crate::choice;
+use crate::drawings::{every_eighth, label_bytes, several, size, FAMILIES};
 use crate::inputs::{
     Inputs, BARE, EIGHTH_TO_SPIDERIZE, GLOBAL_NODES, NODES, ONE_EDGE, RANDOM, RINGS, TO_ADD_TO,
     TO_SPIDERIZE, TREES,
@@ -241,30 +242,109 @@ const CALLS: [(&str, Inputs, Beside); 18] = [
     ("ohg_once_fed", RINGS, Beside::Nothing),
 ];
 
-/// Measures every call of two libraries by turns, at a small size, a middle one and the largest, and prints a table.
+/// The two that are measured on every family of drawings too.
+const ON_FAMILIES: [&str; 2] = ["ohg_cycle_breaking_nodes", "ohg_no_loop"];
+
+/// Two libraries, an earlier one and a newer one.
+struct Builds([Library; 2]);
+
+impl Builds {
+    /// What only one of the two has can't be compared.
+    fn have(&self, name: &str) -> bool {
+        self.0.iter().all(|library| !library.symbol(name).is_null())
+    }
+
+    /// Measures a call of both by turns, prints a row, and tells the newer one's part of the earlier one's time.
+    fn row(
+        &self,
+        name: &str,
+        on: &str,
+        size: usize,
+        forms: &[Vec<u8>],
+        list: Vec<u8>,
+    ) -> Result<f64, String> {
+        let mut sides = vec![];
+        let mut due = vec![];
+        for library in &self.0 {
+            let mut call = call(library, name, list.clone())?;
+            due.push(forms.iter().map(&mut call).collect::<Vec<u64>>());
+            sides.push(Side::new(forms, call));
+        }
+        if due[0] != due[1] {
+            return Err(format!(
+                "{name} answers differently at {size} nodes + ports"
+            ));
+        }
+        let times = medians(sides);
+        let ratio = times[1] / times[0];
+        let cells = [format!("`{name}`"), on.to_string(), size.to_string()];
+        let numbers = [
+            format!("{:.0}", times[0]),
+            format!("{:.0}", times[1]),
+            format!("{ratio:.2}"),
+        ];
+        print_cells(cells.into_iter().chain(numbers));
+        Ok(ratio)
+    }
+}
+
+fn print_table_head() {
+    let words = [
+        "call",
+        "on",
+        "nodes + ports",
+        "before, ns",
+        "now, ns",
+        "now / before",
+    ];
+    print_head(words.map(String::from).to_vec());
+}
+
+fn print_mean(ratios: &[f64]) {
+    let sum: f64 = ratios.iter().map(|ratio| ratio.ln()).sum();
+    let mean = (sum / ratios.len() as f64).exp();
+    let blank = String::new;
+    print_cells([
+        String::from("geometric mean"),
+        blank(),
+        blank(),
+        blank(),
+        blank(),
+        format!("{mean:.2}"),
+    ]);
+}
+
+/// Makes one call so many times on its largest inputs, and nothing else: for a tool that counts what a program does. Twice, with
+/// none and with some, the difference is the calls'.
+pub fn make_calls(library: &str, name: &str, times: &str) -> Result<(), String> {
+    let times: usize = times.parse().map_err(|_| format!("{times} is no number"))?;
+    let listed = CALLS.iter().find(|(call, ..)| *call == name);
+    let Some((_, inputs, Beside::Nothing)) = listed else {
+        return Err(format!("no call of {name} without a list is known"));
+    };
+    let numbers = inputs.numbers();
+    let (size, forms) = (inputs.of)(numbers[numbers.len() - 1]);
+    let mut call = call(&Library::open(library)?, name, vec![])?;
+    for form in forms.iter().cycle().take(times) {
+        call(form);
+    }
+    println!(
+        "{times} calls of {name} on {}, {size} nodes + ports",
+        inputs.words
+    );
+    Ok(())
+}
+
+/// Measures every call of two libraries, at a small size, a middle one and the largest, and prints a table; then a table
+/// for each of those that the drawing's shape matters to, on every family.
 pub fn measure(before: &str, now: &str) -> Result<(), String> {
-    let libraries = [Library::open(before)?, Library::open(now)?];
+    let builds = Builds([Library::open(before)?, Library::open(now)?]);
     print_rounds();
     println!();
-    print_head(
-        [
-            "call",
-            "on",
-            "nodes + ports",
-            "before, ns",
-            "now, ns",
-            "now / before",
-        ]
-        .map(String::from)
-        .to_vec(),
-    );
-    let mut logarithms = vec![];
+    print_table_head();
+    let mut ratios = vec![];
     for (name, inputs, beside) in CALLS {
-        // What only one of the two has can't be compared.
-        if libraries
-            .iter()
-            .any(|library| library.symbol(name).is_null())
-        {
+        if !builds.have(name) {
             continue;
         }
         let numbers = inputs.numbers();
@@ -280,43 +360,25 @@ pub fn measure(before: &str, now: &str) -> Result<(), String> {
                 Beside::Labels => label_bytes(2),
                 Beside::EveryEighth => id_bytes(every_eighth(&forms)),
             };
-            let mut sides = vec![];
-            let mut due = vec![];
-            for library in &libraries {
-                let mut call = call(library, name, list.clone())?;
-                due.push(forms.iter().map(&mut call).collect::<Vec<u64>>());
-                sides.push(Side::new(&forms, call));
-            }
-            if due[0] != due[1] {
-                return Err(format!(
-                    "{name} answers differently at {size} nodes + ports"
-                ));
-            }
-            let times = medians(sides);
-            let ratio = times[1] / times[0];
-            logarithms.push(ratio.ln());
-            let cells = [
-                format!("`{name}`"),
-                inputs.words.to_string(),
-                size.to_string(),
-            ];
-            let numbers = [
-                format!("{:.0}", times[0]),
-                format!("{:.0}", times[1]),
-                format!("{ratio:.2}"),
-            ];
-            print_cells(cells.into_iter().chain(numbers));
+            ratios.push(builds.row(name, inputs.words, size, &forms, list)?);
         }
     }
-    let mean = (logarithms.iter().sum::<f64>() / logarithms.len() as f64).exp();
-    let blank = || String::new();
-    print_cells([
-        String::from("geometric mean"),
-        blank(),
-        blank(),
-        blank(),
-        blank(),
-        format!("{mean:.2}"),
-    ]);
+    print_mean(&ratios);
+    for name in ON_FAMILIES {
+        if !builds.have(name) {
+            continue;
+        }
+        println!();
+        print_table_head();
+        let mut ratios = vec![];
+        for nodes in choice::NODES {
+            for (family, make) in FAMILIES {
+                let forms = several(|rng| make(rng, nodes));
+                let on = format!("{family}, {nodes} nodes");
+                ratios.push(builds.row(name, &on, size(&forms[0]), &forms, vec![])?);
+            }
+        }
+        print_mean(&ratios);
+    }
     Ok(())
 }

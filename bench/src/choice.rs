@@ -44,7 +44,8 @@ fn ohg_no_loop(src: &[u8], room: &mut [u8]) -> u64 {
     unsafe { exported::ohg_no_loop(src.as_ptr(), src.len(), room.as_mut_ptr(), room.len()) }
 }
 
-const NODES: [usize; 3] = [50, 500, 2048];
+/// The sizes at which each family is measured.
+pub const NODES: [usize; 3] = [50, 500, 2048];
 
 pub fn measure(rooms: &Rooms) -> Result<(), String> {
     let mut room = vec![0; rooms.of("ohg_cycle_breaking_nodes")?];

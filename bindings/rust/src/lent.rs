@@ -7,7 +7,7 @@ use std::cell::RefCell;
 const FORM_BYTES: usize = 49_167;
 
 /// The most work room that a function asks for: `OHG_ROOM_CYCLE_BREAKING_NODES`.
-const ROOM_BYTES: usize = 466_944;
+const ROOM_BYTES: usize = 172_048;
 
 /// The most bytes of an answered list or map: 2 for each of the 2,048 nodes that a graph may have.
 pub const LIST_BYTES: usize = 4096;

@@ -1,150 +1,209 @@
--- The engine's first state, and what the first free removal says of the no-loop check.
+-- The first free removal: what was built is seeded and peeled, as the model does; and what the answers of the two calls are then.
 -- Assumes nothing.
-use mathlib.Core.List.{List, [], _∷_}
-use mathlib.Core.Logic.{inr}
 use mathlib.Core.Path.{_≡_, refl, sym, ap, _∙_, subst}
-use Prim.Native.Nat.{ℕ, zero, _+_, _≤_, _<_, zero-le}
+use mathlib.Core.Bool.{Bool, true, false, _&&_, cond}
+use mathlib.Core.List.{List, [], _∷_, List·Memᴰ·head, List·Memᴰ·not-nil, List·Memᴰ·cases-cons}
+use mathlib.Core.Logic.{_≢_, _⊎_, inl, inr, ⊎-elim}
+use Prim.Native.Nat.{ℕ, suc, _+_, _-_, _*_, _/_, _%_, _≤_, _<_}
+use native.Mathlib.Nat.{sub-zero, eq-zero-or-pos}
 use native.Mathlib.Decide.{ℕ-discrete}
 use native.Mathlib.Omega.{arith}
-use lib.Dec.{eqb}
-use lib.ListN.{length, getD, replicate, length-replicate}
-use lib.Seq.{sets}
+use lib.Dec.{T, eqb}
+use lib.ListN.{length, getD, take, length-append, length-map}
+use lib.Seq.{getD-take, length-take-le}
 use borrow.Author.Tests.{eq-eqb, ne-eqb}
-use Rattle.choice.specs.Arcs.{Arc, Set, vertices, size}
-use Rattle.choice.specs.Choice.{core}
-use Rattle.choice.specs.Drawing.{arcs, vertexCount, noLoop}
-use Rattle.cycle.specs.Choosing.{Begun}
-use Rattle.form.specs.declared.Sizes.{Sizes}
-use Rattle.form.specs.Stored.{graphOf, Stored}
-use Rattle.incidence.specs.Listed.{Built}
-use Rattle.incidence.specs.Tables.{part, zip, arcsIn, indegrees, outdegrees, inLists, outLists}
-use Rattle.removal.specs.Engine.{Kept, live, actives, picks, candidatesAt, insOf, outsOf, Held, Seeded, Fixed, State, Peeled}
-use Rattle.choice.proofs.Core.{peels-core, peels-taken}
-use Rattle.choice.specs.Promises.{Bounded}
-use Rattle.choice.specs.Degrees.{Counted, marked, inner, incoming, outgoing}
-use Rattle.choice.proofs.Degrees.{counted-start, marked-vertices, inner-length}
-use Rattle.choice.proofs.Fits.{proper-bounded}
-use Rattle.choice.proofs.Sets.{size-vertices}
-use Rattle.incidence.proofs.Listing.{few-edges}
-use Rattle.incidence.proofs.Parts.{part-length, part-at, part-sets}
-use Rattle.removal.proofs.Frames.{kept-trans, kept-less, kept-outside, live-same}
-use Rattle.removal.proofs.Lowering.{ends-length}
-use Rattle.removal.proofs.Peeling.{state-here}
-use Rattle.removal.proofs.Removing.{fixed-kept}
-use Rattle.le.specs.Le.{Outside}
-use Rattle.le.proofs.Frames.{outside-sets}
+use Rattle.queue.specs.Keys.{radix}
+use Rattle.graph.specs.Graph.{Edge, Graph, Proper, edgeEntries, ports}
+use Rattle.choice.specs.Arcs.{Arc, In, bump, Set, Stable, has, vertices, into, out}
+use Rattle.choice.specs.Choice.{Chosen, choice}
+use Rattle.choice.specs.Drawing.{edgeArcs, arcsFrom, arcs, vertexCount, chosen, noLoop}
+use Rattle.choice.specs.Promises.{Bounded, Offers}
+use Rattle.choice.proofs.Degrees.{howMany-length}
+use Rattle.choice.proofs.Fits.{proper-bounded, proper-offers}
+use Rattle.choice.proofs.Graphs.{chosen-empty-iff-no-cycle, no-loop-iff-no-cycle}
+use Rattle.choice.proofs.Sets.{size-vertices, has-lt, and-left}
+use Rattle.choice.proofs.Cycles.{stable-cycle}
+use Rattle.halves.specs.Halves.{vertex, times, waits, within, Halves, Listed, Between, Going, Seeding, seedTo, peelFrom}
+use Rattle.halves.proofs.Leaving.{bump-true, nil-times, all-live}
+use Rattle.halves.proofs.Lists.{count-cons}
+use Rattle.halves.proofs.Sums.{bump-plus}
+use Rattle.halves.proofs.Start.{seeding-start, seeded, seeding-done}
+use Rattle.halves.proofs.Whole.{still, first-going, going-some, going-stable, going-done}
+use Rattle.tables.specs.Tables.{mostNodes, mostVertices, mostPorts, waitingAt, pickedAt}
+use Rattle.removal.specs.Room.{Source, part, halvesIn, listIn, Roomy, Went, Lists}
+use Rattle.removal.proofs.Tables.{part-length, list-steady}
+use Rattle.removal.proofs.Peeling.{lists-steady}
+use Rattle.removal.proofs.Picking.{roomy-peel}
+use Rattle.incidence.specs.Incidence.{neighbours, Built}
+use Rattle.incidence.proofs.Whole.{listed, degrees-within}
+use Rattle.cycle.specs.Next.{may, degreesIn}
+use Rattle.cycle.specs.Stage.{AllSmall}
+use Rattle.cycle.specs.Begin.{First}
 
-length-zip : (xs ys : List ℕ) → length (zip xs ys) ≤ length xs
-unfolding zip
-length-zip [] ys = zero-le
-length-zip (x ∷ xs) [] = zero-le
-length-zip (x ∷ xs) (y ∷ ys) = omega (arith, length-zip xs ys)
+-- there is an arc for each port
+length-arcs : (e : ℕ) (es : List Edge) → length (arcsFrom e es) ≡ length (edgeEntries es)
+unfolding arcsFrom edgeArcs
+length-arcs e [] = refl
+length-arcs e (d ∷ es) = simp (length-append, length-map, length-arcs (suc e) es)
 
-few-arcs : (W : List ℕ) (m : ℕ) → m ≤ 8192 → 16384 ≤ length W → length (arcsIn W m) ≤ m
-unfolding arcsIn
-few-arcs W m h long = omega (arith, length-zip (part W 0 m) (part W 8192 m), part-length W 0 m (omega arith))
+nobody : (xs : List ℕ) → ((x : ℕ) → In x xs → ⊥) → xs ≡ []
+nobody [] h = refl
+nobody (x ∷ xs) h = absurd (h x (List·Memᴰ·head refl))
 
-module _ (b : List ℕ) (z : Sizes) (selectable : ℕ) (d : Stored b z) (A : List ℕ) (m : ℕ) (built : Built b A (z .nodes + z .edges) m) (long : candidatesAt ≤ length A) where
-  few : z .nodes + z .edges ≤ 4096
-  few = let f = few-edges b z d in omega arith
+in-waits : (y : ℕ) (q : List ℕ) → In y q → 0 < waits (vertex y) q
+in-waits y [] m = absurd (List·Memᴰ·not-nil m)
+in-waits y (x ∷ q) m =
+    let p : ℕ → Bool = λ z. eqb (vertex z) (vertex y) in
+    ⊎-elim (λ e. omega (arith, count-cons p x q, ap (λ (t : Bool). bump t (waits (vertex y) q)) (eq-eqb (vertex x) (vertex y) (ap vertex (sym e)))))
+    (λ k. omega (arith, count-cons p x q, in-waits y q k, bump-plus (p x) (waits (vertex y) q))) (List·Memᴰ·cases-cons m)
 
-  bounded : Bounded (arcsIn A m) (z .nodes + z .edges)
-  bounded =
-      subst (λ (y : Sizes). Bounded (arcsIn A m) (y .nodes + y .edges)) (sym (d .sizes))
-      (subst (λ (l : List Arc). Bounded l (vertexCount (graphOf b))) (sym (built .is-arcs)) (proper-bounded (graphOf b) (d .formed .proper)))
+module _ (s : Source) (g : Graph) (proper : Proper g) (nodes n : ℕ) (nodes-is : nodes ≡ length (g .labels)) (n-is : n ≡ vertexCount g)
+    (few-nodes : nodes ≤ mostNodes) (few : n ≤ mostVertices) (few-ports : ports g ≤ mostPorts) where
+  abbrev P : List Arc
+  P = arcs g
 
-  ins-small : (v : ℕ) → v < z .nodes + z .edges → insOf A v ≤ 8192
-  ins-small v h =
-      omega (arith, built .degrees .is-indegree v h, ap length (built .lists .is-in v h), ends-length A inLists v (built .lists .in-inside v h) (omega (arith, long)), built .lists .in-inside v h)
+  bounded : Bounded (arcs g) n
+  bounded = subst (Bounded (arcs g)) (sym n-is) (proper-bounded g proper)
 
-  outs-small : (v : ℕ) → v < z .nodes + z .edges → outsOf A v ≤ 8192
-  outs-small v h =
-      omega (arith, built .degrees .is-outdegree v h, ap length (built .lists .is-out v h), ends-length A outLists v (built .lists .out-inside v h) (omega (arith, long)), built .lists .out-inside v h)
+  pub offers : Offers (arcs g) (may nodes)
+  offers = subst (λ (k : ℕ). Offers (arcs g) (may k)) (sym nodes-is) (proper-offers g proper)
 
-  module _ (B : List ℕ) (is : B ≡ sets A actives (replicate (z .nodes + z .edges) 1)) where
-    lr : length (replicate {A = ℕ} (z .nodes + z .edges) 1) ≡ z .nodes + z .edges
-    lr = length-replicate {A = ℕ} (z .nodes + z .edges) 1
+  few-within : (S : Set) (y : ℕ) → within (arcs g) S y ≤ mostPorts
+  unfolding within into out arcs
+  few-within S y = go (eqb (y % 2) 0)
+    where
+      l : length (arcsFrom (length (g .labels)) (g .edges)) ≤ mostPorts
+      l = omega (arith, length-arcs (length (g .labels)) (g .edges))
 
-    marks : Outside actives indegrees A B
-    marks = subst (Outside actives indegrees A) (sym is) (outside-sets actives indegrees A actives (replicate (z .nodes + z .edges) 1) (omega arith) (omega (arith, lr, few)))
+      go : (t : Bool) → cond t (into (arcs g) S (y / 2)) (out (arcs g) S (y / 2)) ≤ mostPorts
+      go true = omega (arith, l, howMany-length (λ a. eqb (a .to) (y / 2) && has S (a .from)) (arcsFrom (length (g .labels)) (g .edges)))
+      go false = omega (arith, l, howMany-length (λ a. eqb (a .from) (y / 2) && has S (a .to)) (arcsFrom (length (g .labels)) (g .edges)))
 
-    pub first-small : (v : ℕ) → v < z .nodes + z .edges → (insOf B v ≤ 8192) × (outsOf B v ≤ 8192)
-    first-small v h =
-        (omega (arith, marks .same (indegrees + v) (inr (omega arith)), ins-small v h), omega (arith, marks .same (outdegrees + v) (inr (omega arith)), outs-small v h))
+  module _ (W X Y : List ℕ) (long : pickedAt ≤ length W) (built : Built s g W) (mid end : ℕ) (seeds : Went W X n mid (seedTo n (halvesIn W n 0))) where
+    lists-W : (y : ℕ) → y < 2 * n → listIn s W nodes y ≡ neighbours (arcs g) y
+    lists-W y l = ap (λ (k : ℕ). listIn s W k y) nodes-is ∙ built .lists y (omega arith)
 
-    all-marked : live B (z .nodes + z .edges) ≡ vertices (z .nodes + z .edges)
-    unfolding live
-    all-marked =
-        ap marked (ap (λ (l : List ℕ). part l actives (z .nodes + z .edges)) is
-        ∙ ap (λ (k : ℕ). part (sets A actives (replicate (z .nodes + z .edges) 1)) actives k) (sym lr) ∙ part-sets A actives (replicate (z .nodes + z .edges) 1) (omega (arith, lr, few, long)))
-        ∙ marked-vertices (z .nodes + z .edges)
+    inside-W : Lists s W nodes n
+    inside-W = subst (λ (k : ℕ). Lists s W k n) (sym nodes-is) (subst (Lists s W (length (g .labels))) (sym n-is) (built .inside))
 
-    module _ (X : List ℕ) (waiting candidates : ℕ) (s : Seeded B X (z .nodes + z .edges) selectable waiting candidates) where
-      lb : length B ≡ length A
-      lb = marks .long
+    less : nodes ≤ n
+    less = omega arith
 
-      all : live X (z .nodes + z .edges) ≡ vertices (z .nodes + z .edges)
-      all = live-same (z .nodes + z .edges) (s .frame) (omega (arith, few)) (omega (arith, few, long, lb)) ∙ all-marked
+    abbrev h : Halves
+    h = halvesIn W n 0
 
-      kept : Kept picks A X
-      kept = kept-trans (kept-outside picks (omega arith) marks) (kept-less picks (omega arith) (s .frame))
+    start : Seeding (arcs g) n 0 (halvesIn W n 0 .degrees) (halvesIn W n 0 .waiting)
+    unfolding halvesIn part
+    start = seeding-start (arcs g) n (take (2 * n) W) (length-take-le (2 * n) W (omega arith))
+        (λ y l. getD-take (2 * n) W y 0 l ∙ built .degrees y (omega arith) ∙ degrees-within (arcs g) n bounded y)
 
-      fixed : Fixed (arcsIn A m) (z .nodes + z .edges) m X
-      fixed = fixed-kept (arcsIn A m) (z .nodes + z .edges) m A X
-          (record { few-vertices = few; few-arcs = built .few; long = long; is-arcs = refl; lists = built .lists; bounded = bounded }) kept
+    seeding : Seeding (arcs g) n n (seedTo n h .degrees) (seedTo n h .waiting)
+    seeding = seeded (arcs g) n n h (omega arith) start
 
-      lx : length X ≡ length A
-      lx = kept .long
+    state : Between (arcs g) n (vertices n) (seedTo n h .degrees) (seedTo n h .waiting) []
+    state = seeding-done (arcs g) n (seedTo n h .degrees) (seedTo n h .waiting) seeding
 
-      ins-are : (v : ℕ) → v < z .nodes + z .edges → getD (part X indegrees (z .nodes + z .edges)) v 0 ≡ length (incoming (arcsIn A m) v)
-      ins-are v h =
-          part-at X indegrees (z .nodes + z .edges) v h ∙ s .frame .same (indegrees + v) (omega (arith, few)) ∙ marks .same (indegrees + v) (inr (omega arith)) ∙ built .degrees .is-indegree v h
+    roomy : Roomy n (seedTo n h)
+    roomy = record {
+      long = state .long;
+      paired = state .paired;
+      room = omega (arith, state .number, size-vertices n);
+      low = λ y m.
+          let t = bump-true (has (vertices n) (vertex y) && eqb (getD (seedTo n h .degrees) (2 * vertex y) 0) 0) (omega (arith, state .once (vertex y), in-waits y (seedTo n h .waiting) m)) in
+          omega (arith, has-lt (vertices n) (vertex y) (and-left (has (vertices n) (vertex y)) (eqb (getD (seedTo n h .degrees) (2 * vertex y) 0) 0) t), state .set-long);
+    }
 
-      outs-are : (v : ℕ) → v < z .nodes + z .edges → getD (part X outdegrees (z .nodes + z .edges)) v 0 ≡ length (outgoing (arcsIn A m) v)
-      outs-are v h =
-          part-at X outdegrees (z .nodes + z .edges) v h ∙ s .frame .same (outdegrees + v) (omega (arith, few)) ∙ marks .same (outdegrees + v) (inr (omega arith)) ∙ built .degrees .is-outdegree v h
+    pub seeded-roomy : Roomy n (halvesIn X n mid)
+    seeded-roomy = subst (Roomy n) (sym (seeds .is)) roomy
 
-      counted : Counted (arcsIn A m) (vertices (z .nodes + z .edges)) (part X indegrees (z .nodes + z .edges)) (part X outdegrees (z .nodes + z .edges))
-      counted = counted-start (arcsIn A m) (z .nodes + z .edges) (part X indegrees (z .nodes + z .edges)) (part X outdegrees (z .nodes + z .edges)) bounded
-          (part-length X indegrees (z .nodes + z .edges) (omega (arith, few, long, lx))) (part-length X outdegrees (z .nodes + z .edges) (omega (arith, few, long, lx))) ins-are outs-are
+    pub seeded-lists : Lists s X nodes n
+    seeded-lists = lists-steady s W X nodes n few less long (seeds .frame) inside-W
 
-      within : inner (arcsIn A m) (live X (z .nodes + z .edges)) ≤ m
-      within = omega (arith, inner-length (arcsIn A m) (live X (z .nodes + z .edges)), few-arcs A m (built .few) (omega (arith, long)))
+    same-X : (y : ℕ) → y < 2 * n → listIn s X nodes y ≡ neighbours (arcs g) y
+    same-X y l = list-steady s W X nodes y (omega arith) (seeds .frame) (omega arith) (inside-W .room-inside y) ∙ lists-W y l
 
-      state : State (arcsIn A m) (z .nodes + z .edges) m selectable X waiting candidates
-      state = record {
-        fixed = fixed;
-        counted = subst (λ (S : Set). Counted (arcsIn A m) S (part X indegrees (z .nodes + z .edges)) (part X outdegrees (z .nodes + z .edges))) (sym all) counted;
-        held = subst (λ (S : Set). Held S (z .nodes + z .edges) selectable X waiting candidates) (sym all) (s .held);
-        wait-room = omega (arith, s .few-waiting, within);
-        queue-room = omega (arith, s .few-candidates, within);
-      }
+    listed-X : Listed (arcs g) n (listIn s X nodes)
+    listed-X = listed (arcs g) n bounded (listIn s X nodes) same-X
 
-      pub begun : Begun b X (z .nodes + z .edges) m selectable waiting candidates
-      begun = record {
-        is-arcs = fixed .is-arcs ∙ built .is-arcs;
-        all = all;
-        state = state-here (arcsIn A m) (z .nodes + z .edges) m selectable X waiting candidates state;
-      }
+    pub first : Went X Y n end (peelFrom (n - 0) (listIn s X nodes) 0 (halvesIn X n mid)) → First s g Y nodes n end
+    first w = record {
+      few = w .few;
+      roomy = subst (Roomy n) (sym (w .is)) (roomy-peel (n - 0) n (listIn s X nodes) 0 (halvesIn X n mid) (seeded-lists .low) seeded-roomy);
+      lists = lists-steady s X Y nodes n few less (omega (arith, seeds .frame .long)) (w .frame) seeded-lists;
+      listed =
+          listed (arcs g) n bounded (listIn s Y nodes) (λ y l. list-steady s X Y nodes y (omega arith) (w .frame) (omega (arith, seeds .frame .long)) (seeded-lists .room-inside y) ∙ same-X y l);
+      small = small;
+      left = k .0;
+      going = subst (Going (arcs g) (may nodes) n (k .0) (halvesIn Y n end) []) waits going;
+    }
+      where
+        k : (U : Set) × Going (arcs g) (may nodes) n U (peelFrom n (listIn s X nodes) 0 (seedTo n h)) [] (length (peelFrom n (listIn s X nodes) 0 (seedTo n h) .waiting))
+        k = first-going (arcs g) (may nodes) n (listIn s X nodes) listed-X offers (seedTo n h .degrees) (seedTo n h .waiting) seeding
 
--- ---- the no-loop check
+        is : peelFrom n (listIn s X nodes) 0 (seedTo n h) ≡ halvesIn Y n end
+        is = (λ i. peelFrom (sym (sub-zero n) i) (listIn s X nodes) 0 (sym (seeds .is) i)) ∙ sym (w .is)
 
-same-test : (a b n : ℕ) → a + b ≡ n → eqb a n ≡ eqb b 0
-same-test a b n e = go (ℕ-discrete b 0)
-  where
-    go : Dec (b ≡ 0) → eqb a n ≡ eqb b 0
-    go (yes z) = eq-eqb a n (omega arith) ∙ sym (eq-eqb b 0 z)
-    go (no f) = ne-eqb a n (λ q. f (omega arith)) ∙ sym (ne-eqb b 0 f)
+        waits : length (halvesIn Y n end .waiting) ≡ end
+        waits = unfold halvesIn in part-length Y waitingAt end (omega (arith, w .few, w .frame .long, seeds .frame .long))
 
-pub no-loop-is : (b : List ℕ) (z : Sizes) → Stored b z → (W X : List ℕ) (m selectable waiting candidates more removed : ℕ)
-    → Begun b W (z .nodes + z .edges) m selectable waiting candidates → Peeled (arcsIn W m) (z .nodes + z .edges) m selectable W X more removed
-    → eqb removed (z .nodes + z .edges) ≡ noLoop (graphOf b)
-unfolding noLoop
-no-loop-is b z d W X m selectable waiting candidates more removed g p =
-    let n = z .nodes + z .edges in
-    let is : live X n ≡ core (arcsIn W m) (live W n) = peels-core (arcsIn W m) (p .run) in
-    let t = peels-taken (arcsIn W m) (p .run) in
-    let left : removed + size (live X n) ≡ n = omega (arith, t, p .is-taken, ap size (g .all), size-vertices n) in
-    let count : vertexCount (graphOf b) ≡ n = ap (λ (y : Sizes). y .nodes + y .edges) (sym (d .sizes)) in
-    same-test removed (size (live X n)) n left
-    ∙ ap (λ (S : Set). eqb (size S) zero) (is ∙ (λ i. core (g .is-arcs i) (g .all i)) ∙ ap (λ (k : ℕ). core (arcs (graphOf b)) (vertices k)) (sym count))
+        going : Going (arcs g) (may nodes) n (k .0) (halvesIn Y n end) [] (length (halvesIn Y n end .waiting))
+        going = subst (λ (z : Halves). Going (arcs g) (may nodes) n (k .0) z [] (length (z .waiting))) is (k .1)
+
+        small : AllSmall (degreesIn Y n)
+        small y = go (eq-zero-or-pos (getD (take (2 * n) Y) y 0))
+          where
+            degrees : halvesIn Y n end .degrees ≡ take (2 * n) Y
+            degrees = unfold halvesIn in refl
+
+            go : (getD (take (2 * n) Y) y 0 ≡ 0) ⊎ (0 < getD (take (2 * n) Y) y 0) → getD (take (2 * n) Y) y 0 < radix
+            go (inl z) = omega arith
+            go (inr p) =
+                let r = subst (λ (d : List ℕ). 0 < getD d y 0 → getD d y 0 ≡ within (arcs g) (k .0) y + times y []) degrees (going .ready .state .right y) p in
+                omega (arith, r, few-within (k .0) y, nil-times y)
+
+  -- ---- the answers
+
+  module _ (Y : List ℕ) (long : pickedAt ≤ length Y) (end : ℕ) (f : First s g Y nodes n end) where
+    waits-long : length (halvesIn Y n end .waiting) ≡ end
+    waits-long = unfold halvesIn in part-length Y waitingAt end (omega (arith, f .few))
+
+    gone : Going (arcs g) (may nodes) n (f .left) (halvesIn Y n end) [] (length (halvesIn Y n end .waiting))
+    gone = subst (Going (arcs g) (may nodes) n (f .left) (halvesIn Y n end) []) (sym waits-long) (f .going)
+
+    pub chosen-is : chosen g ≡ choice (arcs g) (may nodes) n
+    chosen-is = unfold chosen in (λ i. choice (arcs g) (may (sym nodes-is i)) (sym n-is i))
+
+    -- all have gone
+    pub none-chosen : end ≡ n → (chosen g .ids ≡ []) × (chosen g .free ≡ end)
+    none-chosen e =
+        let told = going-done (arcs g) (may nodes) n (listIn s Y nodes) (f .listed) offers (f .left) (halvesIn Y n end) [] gone (omega (arith, waits-long)) in
+        (ap (λ (c : Chosen). c .ids) chosen-is ∙ nobody (choice (arcs g) (may nodes) n .ids) (λ x m. List·Memᴰ·not-nil (told .0 x .0 m)), ap (λ (c : Chosen). c .free) chosen-is ∙ told .1 ∙ waits-long)
+
+    -- or some node is live
+    pub some-left : end ≢ n → (x : ℕ) × T (has (f .left) x)
+    some-left ne = going-some (arcs g) (may nodes) n (listIn s Y nodes) (f .listed) offers (f .left) (halvesIn Y n end) [] gone (λ q. ne (omega (arith, waits-long)))
+
+    stable : Stable (arcs g) (f .left)
+    stable = going-stable (arcs g) (may nodes) n (listIn s Y nodes) (f .listed) offers (f .left) (halvesIn Y n end) [] gone
+
+    pub some-live : end ≢ n → (u : ℕ) × T (may nodes u) × (0 < getD (degreesIn Y n) (2 * u) 0)
+    some-live ne =
+        let x = some-left ne in
+        let o = offers (f .left) stable (x .0) (x .1) in
+        let b = still (arcs g) (may nodes) n (listIn s Y nodes) (f .listed) offers (f .left) (halvesIn Y n end) [] gone in
+        let e : halvesIn Y n end .degrees ≡ degreesIn Y n = unfold halvesIn in refl in
+        (o .0, o .2, subst (λ (d : List ℕ). 0 < getD d (2 * o .0) 0) e (all-live (arcs g) n (f .left) (halvesIn Y n end .degrees) b (o .0) (o .1)))
+
+    pub no-loop-is : eqb end n ≡ noLoop g
+    no-loop-is = go (ℕ-discrete end n)
+      where
+        go : Dec (end ≡ n) → eqb end n ≡ noLoop g
+        go (yes e) = eq-eqb end n e ∙ sym (no-loop-iff-no-cycle g proper .1 (chosen-empty-iff-no-cycle g proper .0 (none-chosen e .0)))
+        go (no ne) = ne-eqb end n ne ∙ sym (never (noLoop g) refl)
+          where
+            never : (t : Bool) → noLoop g ≡ t → t ≡ false
+            never false q = refl
+            never true q =
+                let x = some-left ne in
+                let y = stable-cycle (arcs g) (f .left) stable (x .0) (x .1) in
+                absurd (no-loop-iff-no-cycle g proper .0 q (y .0) (y .1))

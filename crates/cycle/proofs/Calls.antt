@@ -8,7 +8,7 @@ use lib.ListN.{length}
 use lib.Seq.{sets}
 use borrow.Author.Tests.{le-leb, lt-leb}
 use Rattle.choice.specs.Drawing.{chosen}
-use Rattle.cycle.specs.Choosing.{ChosenIn, flaggedBelow}
+use Rattle.cycle.specs.Begin.{ChosenIn, flaggedBelow}
 use Rattle.form.specs.Form.{Gives}
 use Rattle.form.specs.Stored.{storedOf, graphOf, formatOf, Stored}
 use Rattle.form.specs.declared.Outcome.the-variants as call
@@ -18,11 +18,12 @@ use Rattle.graph.specs.Calls.{fit}
 use Rattle.graph.specs.Graph.{Graph}
 use Rattle.graph.specs.Versions as versions
 use Rattle.le.specs.Le.{row}
+use Rattle.tables.specs.Tables.{mostVertices}
 use Rattle.le.specs.Rows.{rowAt, placeIn, puts}
 use Rattle.choice.proofs.Graphs.{chosen-and-free-are-all}
 use Rattle.form.proofs.Answers.{gives-done}
 use Rattle.graph.proofs.Places.{sets-lay}
-use Rattle.incidence.proofs.Listing.{few-edges}
+use Rattle.incidence.proofs.Facts.{facts}
 use Rattle.le.proofs.Numbers.{length-row}
 use Rattle.cycle.proofs.Flags.{flagged-chosen}
 
@@ -31,19 +32,19 @@ abbrev pub listing : ℕ → versions.StoredGraph → Graph → Answer Result
 listing room s g = fit room (row (s .format .width) (chosen g .ids)) >>= λ list.
     answered (record { a = length (chosen g .ids); b = chosen g .free; bytes = list; map = [] })
 
-module _ (b : List ℕ) (z : Sizes) (s : Stored b z) (X : List ℕ) (ids free : ℕ) (c : ChosenIn b X (z .nodes) ids free) where
+module _ (b : List ℕ) (z : Sizes) (s : Stored b z) (X : List ℕ) (ids free : ℕ) (c : ChosenIn (graphOf b) X (z .nodes) ids free) where
   flagged : flaggedBelow X (z .nodes) ≡ chosen (graphOf b) .ids
   flagged = flagged-chosen b z s X ids free c
 
   pub flagged-count : length (flaggedBelow X (z .nodes)) ≡ ids
   flagged-count = ap length flagged ∙ sym (c .count)
 
-  pub ids-few : ids ≤ 4096
+  pub ids-few : ids ≤ mostVertices
   ids-few =
-      let f = few-edges b z s in
+      let f = facts s in
       let n = ap (λ (y : Sizes). y .nodes) (s .sizes) in
       let e = ap (λ (y : Sizes). y .edges) (s .sizes) in
-      omega (arith, c .count, chosen-and-free-are-all (graphOf b) (s .formed .proper))
+      omega (arith, f .few, c .count, chosen-and-free-are-all (graphOf b) (s .formed .proper))
 
   width : z .width ≡ formatOf b .width
   width = ap (λ (y : Sizes). y .width) (s .sizes)

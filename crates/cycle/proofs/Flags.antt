@@ -14,36 +14,36 @@ use borrow.Author.Tests.{eq-eqb, ne-eqb}
 use Rattle.choice.specs.Arcs.{In}
 use Rattle.choice.specs.Choice.{Above, Ascends}
 use Rattle.choice.specs.Drawing.{chosen}
-use Rattle.cycle.specs.Choosing.{ChosenIn, shown, flaggedBelow}
+use Rattle.cycle.specs.Begin.{ChosenIn, shown, flaggedBelow}
 use Rattle.form.specs.Stored.{graphOf, Stored}
 use Rattle.form.specs.declared.Sizes.{Sizes}
 use Rattle.le.specs.Rows.{puts}
 use Rattle.le.specs.declared.Row.{Row}
-use Rattle.removal.specs.Engine.{picks}
+use Rattle.tables.specs.Tables.{pickedAt}
 use Rattle.choice.proofs.Ascending.{ascends-ext}
 use Rattle.choice.proofs.Graphs.{chosen-ascends, chosen-are-nodes}
 use Rattle.le.proofs.Rows.{puts-append}
 
-pub shown-no : (W : List ℕ) (v : ℕ) → getD W (picks + v) 0 ≡ 0 → shown W v ≡ []
-shown-no W v e = ap (λ (b : Bool). cond b [] (v ∷ [])) (eq-eqb (getD W (picks + v) 0) 0 e)
+pub shown-no : (W : List ℕ) (v : ℕ) → (getD W (pickedAt + v) 0 ≡ 1 → ⊥) → shown W v ≡ []
+shown-no W v f = ap (λ (b : Bool). cond b (v ∷ []) []) (ne-eqb (getD W (pickedAt + v) 0) 1 f)
 
-pub shown-yes : (W : List ℕ) (v : ℕ) → (getD W (picks + v) 0 ≡ 0 → ⊥) → shown W v ≡ v ∷ []
-shown-yes W v f = ap (λ (b : Bool). cond b [] (v ∷ [])) (ne-eqb (getD W (picks + v) 0) 0 f)
+pub shown-yes : (W : List ℕ) (v : ℕ) → getD W (pickedAt + v) 0 ≡ 1 → shown W v ≡ v ∷ []
+shown-yes W v e = ap (λ (b : Bool). cond b (v ∷ []) []) (eq-eqb (getD W (pickedAt + v) 0) 1 e)
 
 -- x is shown: it is v, and flagged
-shown-in : (W : List ℕ) (v x : ℕ) → In x (shown W v) → (x ≡ v) × (getD W (picks + x) 0 ≡ 0 → ⊥)
-shown-in W v x k = go (ℕ-discrete (getD W (picks + v) 0) 0)
+shown-in : (W : List ℕ) (v x : ℕ) → In x (shown W v) → (x ≡ v) × (getD W (pickedAt + x) 0 ≡ 1)
+shown-in W v x k = go (ℕ-discrete (getD W (pickedAt + v) 0) 1)
   where
-    go : Dec (getD W (picks + v) 0 ≡ 0) → (x ≡ v) × (getD W (picks + x) 0 ≡ 0 → ⊥)
-    go (yes e) = absurd (List·Memᴰ·not-nil (subst (λ (l : List ℕ). In x l) (shown-no W v e) k))
-    go (no f) = let e = List·Memᴰ·eq-of-singleton (subst (λ (l : List ℕ). In x l) (shown-yes W v f) k) in (e, λ z. f (ap (λ (u : ℕ). getD W (picks + u) 0) (sym e) ∙ z))
+    go : Dec (getD W (pickedAt + v) 0 ≡ 1) → (x ≡ v) × (getD W (pickedAt + x) 0 ≡ 1)
+    go (no f) = absurd (List·Memᴰ·not-nil (subst (λ (l : List ℕ). In x l) (shown-no W v f) k))
+    go (yes f) = let e = List·Memᴰ·eq-of-singleton (subst (λ (l : List ℕ). In x l) (shown-yes W v f) k) in (e, ap (λ (u : ℕ). getD W (pickedAt + u) 0) e ∙ f)
 
-pub flagged-in : (W : List ℕ) (k x : ℕ) → In x (flaggedBelow W k) → (x < k) × (getD W (picks + x) 0 ≡ 0 → ⊥)
+pub flagged-in : (W : List ℕ) (k x : ℕ) → In x (flaggedBelow W k) → (x < k) × (getD W (pickedAt + x) 0 ≡ 1)
 flagged-in W zero x i = absurd (List·Memᴰ·not-nil i)
 flagged-in W (suc k) x i =
     ⊎-elim (λ h. let r = flagged-in W k x h in (omega (arith, r .0), r .1)) (λ h. let r = shown-in W k x h in (omega (arith, r .0), r .1)) (List·Memᴰ·append-cases (flaggedBelow W k) i)
 
-pub in-flagged : (W : List ℕ) (k x : ℕ) → x < k → (getD W (picks + x) 0 ≡ 0 → ⊥) → In x (flaggedBelow W k)
+pub in-flagged : (W : List ℕ) (k x : ℕ) → x < k → (getD W (pickedAt + x) 0 ≡ 1) → In x (flaggedBelow W k)
 in-flagged W zero x l f = absurd (not-suc-le-zero l)
 in-flagged W (suc k) x l f = go (λ h. in-flagged W k x h f) (ℕ-discrete x k)
   where
@@ -56,7 +56,7 @@ in-flagged W (suc k) x l f = go (λ h. in-flagged W k x h f) (ℕ-discrete x k)
 
     go : (x < k → In x (flaggedBelow W k)) → Dec (x ≡ k) → In x (flaggedBelow W k ++ shown W k)
     go r (yes e) =
-        let g : getD W (picks + k) 0 ≡ 0 → ⊥ = λ z. f (ap (λ (u : ℕ). getD W (picks + u) 0) e ∙ z) in
+        let g : getD W (pickedAt + k) 0 ≡ 1 = ap (λ (u : ℕ). getD W (pickedAt + u) 0) (sym e) ∙ f in
         Memᴰ·append-right (flaggedBelow W k) (subst (λ (l : List ℕ). In x l) (sym (shown-yes W k g)) (List·Memᴰ·head e))
     go r (no d) = Memᴰ·append-left (shown W k) (r (before d))
 
@@ -72,14 +72,14 @@ ascends-snoc (x ∷ xs) k a h = above-snoc x xs k a (h x (List·Memᴰ·head ref
 
 flagged-ascends : (W : List ℕ) (k : ℕ) → Ascends (flaggedBelow W k)
 flagged-ascends W zero = tt
-flagged-ascends W (suc k) = go (flagged-ascends W k) (ℕ-discrete (getD W (picks + k) 0) 0)
+flagged-ascends W (suc k) = go (flagged-ascends W k) (ℕ-discrete (getD W (pickedAt + k) 0) 1)
   where
-    go : Ascends (flaggedBelow W k) → Dec (getD W (picks + k) 0 ≡ 0) → Ascends (flaggedBelow W k ++ shown W k)
-    go r (yes e) = subst Ascends (sym (ap (λ (l : List ℕ). flaggedBelow W k ++ l) (shown-no W k e) ∙ append-nil (flaggedBelow W k))) r
-    go r (no f) = subst (λ (l : List ℕ). Ascends (flaggedBelow W k ++ l)) (sym (shown-yes W k f)) (ascends-snoc (flaggedBelow W k) k r (λ x i. flagged-in W k x i .0))
+    go : Ascends (flaggedBelow W k) → Dec (getD W (pickedAt + k) 0 ≡ 1) → Ascends (flaggedBelow W k ++ shown W k)
+    go r (no e) = subst Ascends (sym (ap (λ (l : List ℕ). flaggedBelow W k ++ l) (shown-no W k e) ∙ append-nil (flaggedBelow W k))) r
+    go r (yes f) = subst (λ (l : List ℕ). Ascends (flaggedBelow W k ++ l)) (sym (shown-yes W k f)) (ascends-snoc (flaggedBelow W k) k r (λ x i. flagged-in W k x i .0))
 
 -- the flagged nodes are the chosen ids
-pub flagged-chosen : (b : List ℕ) (z : Sizes) → Stored b z → (X : List ℕ) (ids free : ℕ) → ChosenIn b X (z .nodes) ids free → flaggedBelow X (z .nodes) ≡ chosen (graphOf b) .ids
+pub flagged-chosen : (b : List ℕ) (z : Sizes) → Stored b z → (X : List ℕ) (ids free : ℕ) → ChosenIn (graphOf b) X (z .nodes) ids free → flaggedBelow X (z .nodes) ≡ chosen (graphOf b) .ids
 flagged-chosen b z s X ids free c =
     let n = ap (λ (y : Sizes). y .nodes) (s .sizes) in
     ascends-ext (flaggedBelow X (z .nodes)) (chosen (graphOf b) .ids) (flagged-ascends X (z .nodes)) (chosen-ascends (graphOf b) (s .formed .proper))

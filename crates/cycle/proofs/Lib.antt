@@ -1,5 +1,9 @@
+pub mod Turning
+pub mod Best
+pub mod Staging
+pub mod Running
+pub mod Making
 pub mod Begin
-pub mod Finding
-pub mod Stages
+pub mod Ending
 pub mod Flags
 pub mod Calls

@@ -1,152 +1,204 @@
--- Counts over a list, and the entries of one list that stand where another has a given number.
+-- The lists of the halves, arc by arc and edge by edge: what an edge adds to each.
 -- Assumes nothing.
-use mathlib.Core.Bool.{Bool, true, false, cond}
-use mathlib.Core.List.{List, [], _∷_, _++_, map}
 use mathlib.Core.Path.{_≡_, refl, sym, ap, _∙_}
-use Prim.Native.Nat.{ℕ, zero, suc, _+_, _-_, _*_, _≤_, _<_}
-use native.Mathlib.Decide.{ℕ-discrete, decLt}
-use native.Mathlib.Nat.{suc-ne-zero, suc-inj}
+use mathlib.Core.Bool.{Bool, true, false, cond}
+use mathlib.Core.List.{List, [], _∷_, _++_, map, map-append, append-nil}
+use mathlib.Core.Logic.{_≢_}
+use Prim.Native.Nat.{ℕ, zero, suc, _+_, _*_, _/_, _%_, _≤_, _<_}
+use native.Mathlib.Decide.{ℕ-discrete}
 use native.Mathlib.Omega.{arith}
-use lib.Dec.{eqb, ltb}
-use lib.ListN.{length}
-use borrow.Author.Tests.{eq-eqb, ne-eqb, lt-ltb, le-ltb}
-use Rattle.choice.specs.Arcs.{Arc, bump, howMany}
-use Rattle.incidence.specs.Listed.{times, under, sumTo, endsOf}
-use Rattle.incidence.specs.Tables.{zip}
+use lib.Dec.{eqb}
+use lib.ListN.{replicate}
+use borrow.Author.Tests.{eq-eqb, ne-eqb}
+use Rattle.le.specs.Le.{Below}
+use Rattle.graph.specs.Graph.{Edge}
+use Rattle.choice.specs.Arcs.{Arc, arc, bump, howMany}
 use Rattle.choice.specs.Degrees.{endsAt, outgoing, incoming}
-use Rattle.choice.proofs.Degrees.{howMany-length}
-use Rattle.choice.proofs.Sets.{howMany-sum}
+use Rattle.choice.specs.Drawing.{edgeArcs}
+use Rattle.halves.specs.Halves.{mate, times}
+use Rattle.halves.proofs.Lists.{count-append}
+use Rattle.incidence.specs.Incidence.{neighbours, portsOf}
 
-pub howMany-append : {A : Type 0} (p : A → Bool) (xs ys : List A) → howMany p (xs ++ ys) ≡ howMany p xs + howMany p ys
-unfolding howMany
-howMany-append p [] ys = omega arith
-howMany-append p (x ∷ xs) ys = go (p x) (howMany-append p xs ys)
+-- ---- the ends of arcs that are made one by one from a list
+
+ends-append : (near far : Arc → ℕ) (v : ℕ) (P Q : List Arc) → endsAt near far v (P ++ Q) ≡ endsAt near far v P ++ endsAt near far v Q
+unfolding endsAt
+ends-append near far v [] Q = refl
+ends-append near far v (a ∷ P) Q = go (eqb (near a) v) (ends-append near far v P Q)
   where
-    go : (b : Bool) → howMany p (xs ++ ys) ≡ howMany p xs + howMany p ys → bump b (howMany p (xs ++ ys)) ≡ bump b (howMany p xs) + howMany p ys
-    go true e = omega arith
+    go : (t : Bool) → endsAt near far v (P ++ Q) ≡ endsAt near far v P ++ endsAt near far v Q
+        → cond t (far a ∷ endsAt near far v (P ++ Q)) (endsAt near far v (P ++ Q)) ≡ cond t (far a ∷ endsAt near far v P) (endsAt near far v P) ++ endsAt near far v Q
+    go true e = ap (λ (l : List ℕ). far a ∷ l) e
     go false e = e
 
-pub howMany-one : {A : Type 0} (p : A → Bool) (x : A) → howMany p (x ∷ []) ≡ bump (p x) 0
+-- the near end is the entry, the far end always the same
+ends-each : (near far : Arc → ℕ) (f : ℕ → Arc) (c v : ℕ) → ((x : ℕ) → near (f x) ≡ x) → ((x : ℕ) → far (f x) ≡ c) → (xs : List ℕ)
+    → endsAt near far v (map f xs) ≡ replicate (times v xs) c
+unfolding endsAt howMany
+ends-each near far f c v n k [] = refl
+ends-each near far f c v n k (x ∷ xs) =
+    ap (λ (z : ℕ). cond (eqb z v) (far (f x) ∷ endsAt near far v (map f xs)) (endsAt near far v (map f xs))) (n x) ∙ go (eqb x v) (ends-each near far f c v n k xs)
+  where
+    go : (t : Bool) → endsAt near far v (map f xs) ≡ replicate (times v xs) c
+        → cond t (far (f x) ∷ endsAt near far v (map f xs)) (endsAt near far v (map f xs)) ≡ replicate (bump t (times v xs)) c
+    go true e = λ i. k x i ∷ e i
+    go false e = e
+
+-- the near end is another vertex
+ends-none : (near far : Arc → ℕ) (f : ℕ → Arc) (v : ℕ) → ((x : ℕ) → near (f x) ≢ v) → (xs : List ℕ) → endsAt near far v (map f xs) ≡ []
+unfolding endsAt
+ends-none near far f v n [] = refl
+ends-none near far f v n (x ∷ xs) = rw (ne-eqb (near (f x)) v (n x)) (ends-none near far f v n xs)
+
+-- the near end is this vertex, the far end the entry
+ends-all : (near far : Arc → ℕ) (f : ℕ → Arc) (v : ℕ) → ((x : ℕ) → near (f x) ≡ v) → ((x : ℕ) → far (f x) ≡ x) → (xs : List ℕ) → endsAt near far v (map f xs) ≡ xs
+unfolding endsAt
+ends-all near far f v n k [] = refl
+ends-all near far f v n k (x ∷ xs) = rw (eq-eqb (near (f x)) v (n x)) (λ i. k x i ∷ ends-all near far f v n k xs i)
+
+-- ---- the halves of ids
+
+times-none : (n y : ℕ) (ids : List ℕ) → Below n ids → n ≤ y → times y ids ≡ 0
 unfolding howMany
-howMany-one p x = refl
+times-none n y [] b l = refl
+times-none n y (x ∷ ids) b l = rw (ne-eqb x y (λ e. omega (arith, b .0))) (times-none n y ids (b .1) l)
 
--- one entry more
-pub times-snoc : (v : ℕ) (xs : List ℕ) (x : ℕ) → times v (xs ++ (x ∷ [])) ≡ times v xs + bump (eqb x v) 0
-times-snoc v xs x = howMany-append (λ y. eqb y v) xs (x ∷ []) ∙ ap (λ (n : ℕ). times v xs + n) (howMany-one (λ y. eqb y v) x)
+module _ (y side : ℕ) (low : side < 2) where
+  pub times-side : y % 2 ≡ side → (ids : List ℕ) → times y (map (λ id. 2 * id + side) ids) ≡ times (y / 2) ids
+  unfolding howMany
+  times-side e [] = refl
+  times-side e (x ∷ ids) = go (ℕ-discrete x (y / 2)) (times-side e ids)
+    where
+      go : Dec (x ≡ y / 2) → times y (map (λ id. 2 * id + side) ids) ≡ times (y / 2) ids
+          → bump (eqb (2 * x + side) y) (times y (map (λ id. 2 * id + side) ids)) ≡ bump (eqb x (y / 2)) (times (y / 2) ids)
+      go (yes q) r = rw (eq-eqb (2 * x + side) y (omega arith), eq-eqb x (y / 2) q) (ap suc r)
+      go (no q) r = rw (ne-eqb (2 * x + side) y (λ p. q (omega arith)), ne-eqb x (y / 2) q) r
 
-pub times-here : (v : ℕ) (xs : List ℕ) (x : ℕ) → x ≡ v → times v (xs ++ (x ∷ [])) ≡ times v xs + 1
-times-here v xs x e = times-snoc v xs x ∙ ap (λ (b : Bool). times v xs + bump b 0) (eq-eqb x v e)
+  pub times-far : y % 2 ≢ side → (ids : List ℕ) → times y (map (λ id. 2 * id + side) ids) ≡ 0
+  unfolding howMany
+  times-far e [] = refl
+  times-far e (x ∷ ids) = rw (ne-eqb (2 * x + side) y (λ p. e (omega arith))) (times-far e ids)
 
-pub times-other : (v : ℕ) (xs : List ℕ) (x : ℕ) → (x ≡ v → ⊥) → times v (xs ++ (x ∷ [])) ≡ times v xs
-times-other v xs x n = times-snoc v xs x ∙ ap (λ (b : Bool). times v xs + bump b 0) (ne-eqb x v n) ∙ omega arith
+-- ---- what an edge adds
 
--- below v + 1: below v, or v
-one-under : (v x : ℕ) → bump (ltb x (suc v)) zero ≡ bump (ltb x v) zero + bump (eqb x v) zero
-one-under v x = go (decLt x v) (ℕ-discrete x v)
+pub neighbours-append : (P Q : List Arc) (y : ℕ) → neighbours (P ++ Q) y ≡ neighbours P y ++ neighbours Q y
+unfolding neighbours
+neighbours-append P Q y = go (eqb (y % 2) 0)
   where
-    go : Dec (x < v) → Dec (x ≡ v) → bump (ltb x (suc v)) zero ≡ bump (ltb x v) zero + bump (eqb x v) zero
-    go (yes l) (yes e) = absurd (omega arith)
-    go (yes l) (no n) =
-        let t : x < suc v = omega arith in
-        rw (lt-ltb x (suc v) t, lt-ltb x v l, ne-eqb x v n)
-    go (no f) (yes e) =
-        let t : x < suc v = omega arith in
-        let u : v ≤ x = omega arith in
-        rw (lt-ltb x (suc v) t, le-ltb x v u, eq-eqb x v e)
-    go (no f) (no n) =
-        let u : v ≤ x = omega arith in
-        let t : suc v ≤ x = omega arith in
-        rw (le-ltb x (suc v) t, le-ltb x v u, ne-eqb x v n)
+    go : (t : Bool) → map (λ x. 2 * x + y % 2) (cond t (outgoing (P ++ Q) (y / 2)) (incoming (P ++ Q) (y / 2)))
+        ≡ map (λ x. 2 * x + y % 2) (cond t (outgoing P (y / 2)) (incoming P (y / 2))) ++ map (λ x. 2 * x + y % 2) (cond t (outgoing Q (y / 2)) (incoming Q (y / 2)))
+    go true = ap (map (λ x. 2 * x + y % 2)) (ends-append (λ a. a .from) (λ a. a .to) (y / 2) P Q) ∙ map-append (λ x. 2 * x + y % 2) (outgoing P (y / 2)) (outgoing Q (y / 2))
+    go false = ap (map (λ x. 2 * x + y % 2)) (ends-append (λ a. a .to) (λ a. a .from) (y / 2) P Q) ∙ map-append (λ x. 2 * x + y % 2) (incoming P (y / 2)) (incoming Q (y / 2))
 
-pub under-suc : (v : ℕ) (xs : List ℕ) → under (suc v) xs ≡ under v xs + times v xs
-under-suc v xs = howMany-sum (λ x. ltb x (suc v)) (λ x. ltb x v) (λ x. eqb x v) xs (one-under v)
+map-replicate : (f : ℕ → ℕ) (n c : ℕ) → map f (replicate n c) ≡ replicate n (f c)
+map-replicate f zero c = refl
+map-replicate f (suc n) c = ap (λ (l : List ℕ). f c ∷ l) (map-replicate f n c)
 
-pub under-zero : (xs : List ℕ) → under 0 xs ≡ 0
-unfolding howMany
-under-zero [] = refl
-under-zero (x ∷ xs) = ap (λ (b : Bool). bump b (under 0 xs)) (le-ltb x 0 (omega arith)) ∙ under-zero xs
+module _ (x : ℕ) (d : Edge) where
+  -- a half of another vertex: the edge stands there for each of its ports
+  pub ports-at : (y : ℕ) → y / 2 ≢ x → neighbours (edgeArcs x d) y ≡ replicate (times y (portsOf d)) (2 * x + y % 2)
+  unfolding neighbours edgeArcs portsOf
+  ports-at y ne = go (ℕ-discrete (y % 2) 0)
+    where
+      S : List ℕ
+      S = d .sources
 
-pub under-mono : (v : ℕ) (xs : List ℕ) (d : ℕ) → under v xs ≤ under (d + v) xs
-under-mono v xs zero = rw (zero-plus v) (omega arith)
+      R : List ℕ
+      R = d .targets
+
+      all : times y (map (λ id. 2 * id + 0) S ++ map (λ id. 2 * id + 1) R) ≡ times y (map (λ id. 2 * id + 0) S) + times y (map (λ id. 2 * id + 1) R)
+      all = count-append (λ t. eqb t y) (map (λ id. 2 * id + 0) S) (map (λ id. 2 * id + 1) R)
+
+      go : Dec (y % 2 ≡ 0) → map (λ z. 2 * z + y % 2) (cond (eqb (y % 2) 0) (outgoing (map (λ z. arc z x) S ++ map (λ z. arc x z) R) (y / 2)) (incoming (map (λ z. arc z x) S ++ map (λ z. arc x z) R) (y / 2)))
+          ≡ replicate (times y (map (λ id. 2 * id + 0) S ++ map (λ id. 2 * id + 1) R)) (2 * x + y % 2)
+      go (yes e) =
+          rw (eq-eqb (y % 2) 0 e)
+          (ap (map (λ z. 2 * z + y % 2)) (ends-append (λ a. a .from) (λ a. a .to) (y / 2) (map (λ z. arc z x) S) (map (λ z. arc x z) R)
+          ∙ (λ i. ends-each (λ a. a .from) (λ a. a .to) (λ z. arc z x) x (y / 2) (λ z. refl) (λ z. refl) S i ++ ends-none (λ a. a .from) (λ a. a .to) (λ z. arc x z) (y / 2) (λ z q. ne (sym q)) R i)
+          ∙ append-nil (replicate (times (y / 2) S) x))
+          ∙ map-replicate (λ z. 2 * z + y % 2) (times (y / 2) S) x ∙ ap (λ (n : ℕ). replicate n (2 * x + y % 2)) many)
+        where
+          many : times (y / 2) S ≡ times y (map (λ id. 2 * id + 0) S ++ map (λ id. 2 * id + 1) R)
+          many = omega (arith, all, times-side y 0 (omega arith) e S, times-far y 1 (omega arith) (λ p. omega arith) R)
+      go (no e) =
+          rw (ne-eqb (y % 2) 0 e)
+          (ap (map (λ z. 2 * z + y % 2)) (ends-append (λ a. a .to) (λ a. a .from) (y / 2) (map (λ z. arc z x) S) (map (λ z. arc x z) R)
+          ∙ (λ i. ends-none (λ a. a .to) (λ a. a .from) (λ z. arc z x) (y / 2) (λ z q. ne (sym q)) S i ++ ends-each (λ a. a .to) (λ a. a .from) (λ z. arc x z) x (y / 2) (λ z. refl) (λ z. refl) R i))
+          ∙ map-replicate (λ z. 2 * z + y % 2) (times (y / 2) R) x ∙ ap (λ (n : ℕ). replicate n (2 * x + y % 2)) many)
+        where
+          many : times (y / 2) R ≡ times y (map (λ id. 2 * id + 0) S ++ map (λ id. 2 * id + 1) R)
+          many = omega (arith, all, times-far y 0 (omega arith) e S, times-side y 1 (omega arith) (omega arith) R)
+
+  module _ (n : ℕ) (above : n ≤ x) (sources : Below n (d .sources)) (targets : Below n (d .targets)) where
+    -- its own halves: its targets, and its sources
+    pub ports-own : (y : ℕ) → y / 2 ≡ x → neighbours (edgeArcs x d) y ≡ map (λ id. 2 * id + y % 2) (cond (eqb (y % 2) 0) (d .targets) (d .sources))
+    unfolding neighbours edgeArcs
+    ports-own y e = go (eqb (y % 2) 0)
+      where
+        S : List ℕ
+        S = d .sources
+
+        R : List ℕ
+        R = d .targets
+
+        none : (ids : List ℕ) → Below n ids → replicate (times (y / 2) ids) x ≡ []
+        none ids b = ap (λ (k : ℕ). replicate k x) (times-none n (y / 2) ids b (omega arith))
+
+        go : (t : Bool) → map (λ z. 2 * z + y % 2) (cond t (outgoing (map (λ z. arc z x) S ++ map (λ z. arc x z) R) (y / 2)) (incoming (map (λ z. arc z x) S ++ map (λ z. arc x z) R) (y / 2)))
+            ≡ map (λ z. 2 * z + y % 2) (cond t R S)
+        go true =
+            ap (map (λ z. 2 * z + y % 2)) (ends-append (λ a. a .from) (λ a. a .to) (y / 2) (map (λ z. arc z x) S) (map (λ z. arc x z) R)
+            ∙ (λ i. (ends-each (λ a. a .from) (λ a. a .to) (λ z. arc z x) x (y / 2) (λ z. refl) (λ z. refl) S ∙ none S sources) i ++ ends-all (λ a. a .from) (λ a. a .to) (λ z. arc x z) (y / 2) (λ z. sym e) (λ z. refl) R i))
+        go false =
+            ap (map (λ z. 2 * z + y % 2)) (ends-append (λ a. a .to) (λ a. a .from) (y / 2) (map (λ z. arc z x) S) (map (λ z. arc x z) R)
+            ∙ (λ i. ends-all (λ a. a .to) (λ a. a .from) (λ z. arc z x) (y / 2) (λ z. sym e) (λ z. refl) S i ++ (ends-each (λ a. a .to) (λ a. a .from) (λ z. arc x z) x (y / 2) (λ z. refl) (λ z. refl) R ∙ none R targets) i)
+            ∙ append-nil S)
+
+    -- no port is a half of an edge
+    pub ports-low : (y : ℕ) → 2 * n ≤ y → times y (portsOf d) ≡ 0
+    unfolding portsOf
+    ports-low y l = count-append (λ t. eqb t y) (map (λ id. 2 * id + 0) (d .sources)) (map (λ id. 2 * id + 1) (d .targets)) ∙ (λ i. none 0 (d .sources) (omega arith) sources i + none 1 (d .targets) (omega arith) targets i)
+      where
+        none : (side : ℕ) (ids : List ℕ) → side < 2 → Below n ids → times y (map (λ id. 2 * id + side) ids) ≡ 0
+        none side [] s b = unfold howMany in refl
+        none side (z ∷ ids) s b = go (none side ids s (b .1))
+          where
+            go : times y (map (λ id. 2 * id + side) ids) ≡ 0 → times y (map (λ id. 2 * id + side) (z ∷ ids)) ≡ 0
+            go r = unfold howMany in rw (ne-eqb (2 * z + side) y (λ e. omega (arith, b .0))) r
+
+-- the ports seen from the other side: what the edge adds to the degrees of its nodes
+pub ports-mate : (d : Edge) (y : ℕ) → times y (map (λ id. 2 * id + 1) (d .sources)) + times y (map (λ id. 2 * id + 0) (d .targets)) ≡ times (mate y) (portsOf d)
+unfolding portsOf
+ports-mate d y = go (ℕ-discrete (y % 2) 0)
   where
-    zero-plus : (k : ℕ) → 0 + k ≡ k
-    zero-plus k = omega arith
-under-mono v xs (suc d) = rw (plus d v) (omega (arith, under-mono v xs d, under-suc (d + v) xs))
-  where
-    plus : (a b : ℕ) → suc a + b ≡ suc (a + b)
-    plus a b = omega arith
+    S : List ℕ
+    S = d .sources
 
--- a list's end is not past the start of a later one
-pub under-apart : (v u : ℕ) (xs : List ℕ) → v < u → under v xs + times v xs ≤ under u xs
-under-apart v u xs h = go (u - suc v) (omega arith)
-  where
-    go : (d : ℕ) → d + suc v ≡ u → under v xs + times v xs ≤ under u xs
-    go d e = rw (← e) (omega (arith, under-suc v xs, under-mono (suc v) xs d))
+    R : List ℕ
+    R = d .targets
 
-pub under-length : (v : ℕ) (xs : List ℕ) → under v xs + times v xs ≤ length xs
-under-length v xs = omega (arith, under-suc v xs, howMany-length (λ x. ltb x (suc v)) xs)
+    all : times (mate y) (map (λ id. 2 * id + 0) S ++ map (λ id. 2 * id + 1) R) ≡ times (mate y) (map (λ id. 2 * id + 0) S) + times (mate y) (map (λ id. 2 * id + 1) R)
+    all = count-append (λ t. eqb t (mate y)) (map (λ id. 2 * id + 0) S) (map (λ id. 2 * id + 1) R)
 
--- the sum of how often each number below v stands there
-pub sum-times : (f : ℕ → ℕ) (xs : List ℕ) (v : ℕ) → ((u : ℕ) → u < v → f u ≡ times u xs) → sumTo f v ≡ under v xs
-sum-times f xs zero h = sym (under-zero xs)
-sum-times f xs (suc v) h = omega (arith, under-suc v xs, sum-times f xs v (λ u l. h u (omega arith)), h v (omega arith))
+    same : (y / 2) ≡ (mate y / 2)
+    same = omega arith
 
-pub sum-le : (f : ℕ → ℕ) (n v : ℕ) → v ≤ n → ((u : ℕ) → u < n → f u ≤ 8192) → sumTo f v ≤ v * 8192
-sum-le f n zero l h = omega arith
-sum-le f n (suc v) l h = omega (arith, sum-le f n v (omega arith) h, h v (omega arith))
-
--- ---- ends
-
-pub length-ends : (v : ℕ) (xs ys : List ℕ) → length xs ≡ length ys → length (endsOf v xs ys) ≡ times v xs
-unfolding endsOf howMany
-length-ends v [] ys e = refl
-length-ends v (x ∷ xs) [] e = absurd (suc-ne-zero (length xs) e)
-length-ends v (x ∷ xs) (y ∷ ys) e = go (eqb x v) (length-ends v xs ys (suc-inj e))
-  where
-    go : (b : Bool) → length (endsOf v xs ys) ≡ times v xs → length (cond b (y ∷ endsOf v xs ys) (endsOf v xs ys)) ≡ bump b (times v xs)
-    go true q = ap suc q
-    go false q = q
-
-pub ends-snoc : (v : ℕ) (xs ys : List ℕ) (x y : ℕ) → length xs ≡ length ys
-    → endsOf v (xs ++ (x ∷ [])) (ys ++ (y ∷ [])) ≡ cond (eqb x v) (endsOf v xs ys ++ (y ∷ [])) (endsOf v xs ys)
-unfolding endsOf
-ends-snoc v [] [] x y e = refl
-ends-snoc v [] (b ∷ ys) x y e = absurd (suc-ne-zero (length ys) (sym e))
-ends-snoc v (a ∷ xs) [] x y e = absurd (suc-ne-zero (length xs) e)
-ends-snoc v (a ∷ xs) (b ∷ ys) x y e = go (eqb a v) (eqb x v) (ends-snoc v xs ys x y (suc-inj e))
-  where
-    go : (s t : Bool) → endsOf v (xs ++ (x ∷ [])) (ys ++ (y ∷ [])) ≡ cond t (endsOf v xs ys ++ (y ∷ [])) (endsOf v xs ys)
-        → cond s (b ∷ endsOf v (xs ++ (x ∷ [])) (ys ++ (y ∷ []))) (endsOf v (xs ++ (x ∷ [])) (ys ++ (y ∷ [])))
-        ≡ cond t (cond s (b ∷ endsOf v xs ys) (endsOf v xs ys) ++ (y ∷ [])) (cond s (b ∷ endsOf v xs ys) (endsOf v xs ys))
-    go true true q = ap (λ (l : List ℕ). b ∷ l) q
-    go true false q = ap (λ (l : List ℕ). b ∷ l) q
-    go false true q = q
-    go false false q = q
-
-pub ends-here : (v : ℕ) (xs ys : List ℕ) (x y : ℕ) → length xs ≡ length ys → x ≡ v
-    → endsOf v (xs ++ (x ∷ [])) (ys ++ (y ∷ [])) ≡ endsOf v xs ys ++ (y ∷ [])
-ends-here v xs ys x y e q = ends-snoc v xs ys x y e ∙ ap (λ (b : Bool). cond b (endsOf v xs ys ++ (y ∷ [])) (endsOf v xs ys)) (eq-eqb x v q)
-
-pub ends-other : (v : ℕ) (xs ys : List ℕ) (x y : ℕ) → length xs ≡ length ys → (x ≡ v → ⊥)
-    → endsOf v (xs ++ (x ∷ [])) (ys ++ (y ∷ [])) ≡ endsOf v xs ys
-ends-other v xs ys x y e q = ends-snoc v xs ys x y e ∙ ap (λ (b : Bool). cond b (endsOf v xs ys ++ (y ∷ [])) (endsOf v xs ys)) (ne-eqb x v q)
-
--- ---- of arcs
-
-pub outgoing-zip : (v : ℕ) (xs ys : List ℕ) → outgoing (zip xs ys) v ≡ endsOf v xs ys
-unfolding endsOf zip endsAt
-outgoing-zip v [] ys = refl
-outgoing-zip v (x ∷ xs) [] = refl
-outgoing-zip v (x ∷ xs) (y ∷ ys) = ap (λ (l : List ℕ). cond (eqb x v) (y ∷ l) l) (outgoing-zip v xs ys)
-
-pub incoming-zip : (v : ℕ) (xs ys : List ℕ) → incoming (zip xs ys) v ≡ endsOf v ys xs
-unfolding endsOf zip endsAt
-incoming-zip v [] [] = refl
-incoming-zip v [] (y ∷ ys) = refl
-incoming-zip v (x ∷ xs) [] = refl
-incoming-zip v (x ∷ xs) (y ∷ ys) = ap (λ (l : List ℕ). cond (eqb y v) (x ∷ l) l) (incoming-zip v xs ys)
-
-pub zip-map : (l : List Arc) → zip (map (λ a. a .from) l) (map (λ a. a .to) l) ≡ l
-unfolding zip
-zip-map [] = refl
-zip-map (a ∷ more) = ap (λ (l : List Arc). a ∷ l) (zip-map more)
+    go : Dec (y % 2 ≡ 0) → times y (map (λ id. 2 * id + 1) S) + times y (map (λ id. 2 * id + 0) R) ≡ times (mate y) (map (λ id. 2 * id + 0) S ++ map (λ id. 2 * id + 1) R)
+    go (yes e) = omega (
+      arith,
+      all,
+      times-far y 1 (omega arith) (λ p. omega arith) S,
+      times-side y 0 (omega arith) e R,
+      times-far (mate y) 0 (omega arith) (λ p. omega arith) S,
+      times-side (mate y) 1 (omega arith) (omega arith) R,
+      ap (λ (v : ℕ). times v R) same,
+    )
+    go (no e) = omega (
+      arith,
+      all,
+      times-side y 1 (omega arith) (omega arith) S,
+      times-far y 0 (omega arith) e R,
+      times-side (mate y) 0 (omega arith) (omega arith) S,
+      times-far (mate y) 1 (omega arith) (λ p. omega arith) R,
+      ap (λ (v : ℕ). times v S) same,
+    )

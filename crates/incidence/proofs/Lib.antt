@@ -1,5 +1,6 @@
-pub mod Parts
 pub mod Ends
-pub mod Building
-pub mod Listing
+pub mod Counting
+pub mod Laying
+pub mod Filling
+pub mod Facts
 pub mod Whole

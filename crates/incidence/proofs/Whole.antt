@@ -1,139 +1,167 @@
--- The whole incidence graph, from the list of arcs and the two groupings of it.
+-- What is built: counted, laid out and filled, the tables have the degrees and the lists of the drawing's arcs, as the model of half vertices asks for them.
 -- Assumes nothing.
-use mathlib.Core.List.{List, [], _∷_, List·Memᴰ·head, List·Memᴰ·tail}
-use mathlib.Core.Logic.{inl, inr}
 use mathlib.Core.Path.{_≡_, refl, sym, ap, _∙_, subst}
-use Prim.Native.Nat.{ℕ, zero, suc, _+_, _≤_, _<_}
-use native.Mathlib.Nat.{not-suc-le-zero, le-of-suc-le-suc, suc-inj, suc-ne-zero}
+use mathlib.Core.Bool.{Bool, true, false, cond}
+use mathlib.Core.List.{List, [], _∷_, map, List·Memᴰ·head, List·Memᴰ·tail, List·Memᴰ·not-nil, List·Memᴰ·cases-cons}
+use mathlib.Core.Logic.{inl, inr, ⊎-elim}
+use Prim.Native.Nat.{ℕ, _+_, _*_, _/_, _%_, _≤_, _<_}
+use native.Mathlib.Decide.{ℕ-discrete, decLt}
 use native.Mathlib.Omega.{arith}
-use lib.ListN.{length, getD}
-use Rattle.choice.specs.Arcs.{Arc, arc, In}
-use Rattle.choice.specs.Drawing.{vertexCount}
-use Rattle.form.specs.Stored.{graphOf, Stored}
-use Rattle.form.specs.declared.Sizes.{Sizes}
-use Rattle.incidence.specs.Listed.{AllListed, Low, Grouped, Built, times, endsOf}
-use Rattle.incidence.specs.Tables.{part, zip, arcsIn, ends, Incidence, Degrees}
+use lib.Dec.{eqb}
+use lib.ListN.{length, getD, length-map}
+use lib.Seq.{take-length}
+use borrow.Author.Tests.{eq-eqb, ne-eqb}
+use Rattle.le.specs.Rows.{Holds}
+use Rattle.graph.specs.Graph.{Graph}
+use Rattle.choice.specs.Arcs.{Arc, In, vertices, into, out}
+use Rattle.choice.specs.Degrees.{between, endsAt, outgoing, incoming}
+use Rattle.choice.specs.Drawing.{arcsFrom, arcs, vertexCount}
 use Rattle.choice.specs.Promises.{Bounded}
-use Rattle.choice.specs.Degrees.{outgoing, incoming}
-use Rattle.choice.proofs.Fits.{proper-bounded}
-use Rattle.incidence.proofs.Building.{ends-part}
-use Rattle.incidence.proofs.Ends.{length-ends, outgoing-zip, incoming-zip}
-use Rattle.incidence.proofs.Parts.{part-length, part-at, part-ext}
+use Rattle.choice.proofs.Degrees.{ends-all, howMany-outgoing, howMany-incoming}
+use Rattle.form.specs.declared.Sizes.{Sizes}
+use Rattle.halves.specs.Halves.{mate, within, joins, times, sumTo, Listed}
+use Rattle.halves.proofs.Sides.{joins-other}
+use Rattle.halves.proofs.Sums.{sum-same, sum-apart}
+use Rattle.tables.specs.Tables.{mostPorts, listsAt, entriesAt}
+use Rattle.removal.specs.Room.{Source, roomList, formList, listIn, AllLow}
+use Rattle.removal.proofs.Peeling.{list-room, list-form}
+use Rattle.incidence.specs.Incidence.{neighbours, arcsTo, CountedTo, LaidOut, Empty, ListsFilled, Built}
+use Rattle.incidence.proofs.Ends.{times-side, times-far}
+use Rattle.incidence.proofs.Laying.{room-for-all}
+use Rattle.incidence.proofs.Facts.{Facts}
 
-zip-in : (xs ys : List ℕ) (k : ℕ) → length xs ≡ length ys → k < length xs → In (arc (getD xs k 0) (getD ys k 0)) (zip xs ys)
-unfolding zip
-zip-in [] ys k e h = absurd (not-suc-le-zero h)
-zip-in (x ∷ xs) [] k e h = absurd (suc-ne-zero (length xs) e)
-zip-in (x ∷ xs) (y ∷ ys) zero e h = List·Memᴰ·head refl
-zip-in (x ∷ xs) (y ∷ ys) (suc k) e h = List·Memᴰ·tail (zip-in xs ys k (suc-inj e) (le-of-suc-le-suc h))
+-- ---- the lists of the arcs are those of the model
 
--- both ends of a listed arc are vertices
-listed-low : (W : List ℕ) (m n : ℕ) → m ≤ 8192 → 16384 ≤ length W → Bounded (arcsIn W m) n → Low W 0 m n × Low W 8192 m n
-unfolding arcsIn
-listed-low W m n few long b = ((λ k h. from-low k h), (λ k h. to-low k h))
+ends-low : (near far : Arc → ℕ) (n v : ℕ) (P : List Arc) → ((a : Arc) → In a P → far a < n) → (x : ℕ) → In x (endsAt near far v P) → x < n
+unfolding endsAt
+ends-low near far n v [] h x m = absurd (List·Memᴰ·not-nil m)
+ends-low near far n v (a ∷ P) h x m = go (eqb (near a) v) m (ends-low near far n v P (λ c k. h c (List·Memᴰ·tail k)) x)
   where
-    lf : length (part W 0 m) ≡ m
-    lf = part-length W 0 m (omega arith)
+    go : (t : Bool) → In x (cond t (far a ∷ endsAt near far v P) (endsAt near far v P)) → (In x (endsAt near far v P) → x < n) → x < n
+    go true m r = ⊎-elim (λ e. subst (λ (y : ℕ). y < n) (sym e) (h a (List·Memᴰ·head refl))) r (List·Memᴰ·cases-cons m)
+    go false m r = r m
 
-    lt : length (part W 8192 m) ≡ m
-    lt = part-length W 8192 m (omega arith)
+halves-low : (n side : ℕ) (ids : List ℕ) → side < 2 → ((x : ℕ) → In x ids → x < n) → AllLow n (map (λ x. 2 * x + side) ids)
+halves-low n side [] s h t m = absurd (List·Memᴰ·not-nil m)
+halves-low n side (x ∷ ids) s h t m = ⊎-elim (λ e. omega (arith, h x (List·Memᴰ·head refl))) (λ k. halves-low n side ids s (λ y j. h y (List·Memᴰ·tail j)) t k) (List·Memᴰ·cases-cons m)
 
-    is-in : (k : ℕ) → k < m → In (arc (getD (part W 0 m) k 0) (getD (part W 8192 m) k 0)) (zip (part W 0 m) (part W 8192 m))
-    is-in k h = zip-in (part W 0 m) (part W 8192 m) k (lf ∙ sym lt) (omega (arith, lf))
+module _ (P : List Arc) (n : ℕ) (bounded : Bounded P n) where
+  neighbours-low : (y : ℕ) → AllLow n (neighbours P y)
+  unfolding neighbours
+  neighbours-low y = halves-low n (y % 2) (cond (eqb (y % 2) 0) (outgoing P (y / 2)) (incoming P (y / 2))) (omega arith) (go (eqb (y % 2) 0))
+    where
+      go : (t : Bool) → (x : ℕ) → In x (cond t (outgoing P (y / 2)) (incoming P (y / 2))) → x < n
+      go true x m = ends-low (λ a. a .from) (λ a. a .to) n (y / 2) P (λ a k. bounded (a .from) (a .to) k .1) x m
+      go false x m = ends-low (λ a. a .to) (λ a. a .from) n (y / 2) P (λ a k. bounded (a .from) (a .to) k .0) x m
 
-    from-low : (k : ℕ) → k < m → getD W (0 + k) 0 < n
-    from-low k h = omega (arith, part-at W 0 m k h, b (getD (part W 0 m) k 0) (getD (part W 8192 m) k 0) (is-in k h) .0)
+  neighbours-times : (y z : ℕ) → times z (neighbours P y) ≡ joins P y z
+  unfolding neighbours joins
+  neighbours-times y z = go (ℕ-discrete (y % 2) (z % 2))
+    where
+      half : (t : Bool) → times (z / 2) (cond t (outgoing P (y / 2)) (incoming P (y / 2))) ≡ cond t (between P (y / 2) (z / 2)) (between P (z / 2) (y / 2))
+      half true = howMany-outgoing P (y / 2) (z / 2)
+      half false = howMany-incoming P (y / 2) (z / 2)
 
-    to-low : (k : ℕ) → k < m → getD W (8192 + k) 0 < n
-    to-low k h = omega (arith, part-at W 8192 m k h, b (getD (part W 0 m) k 0) (getD (part W 8192 m) k 0) (is-in k h) .1)
+      go : Dec (y % 2 ≡ z % 2) → times z (map (λ x. 2 * x + y % 2) (cond (eqb (y % 2) 0) (outgoing P (y / 2)) (incoming P (y / 2)))) ≡ joins P y z
+      go (no n) = times-far z (y % 2) (omega arith) (λ e. n (sym e)) (cond (eqb (y % 2) 0) (outgoing P (y / 2)) (incoming P (y / 2))) ∙ sym (joins-other P y z n)
+      go (yes e) = times-side z (y % 2) (omega arith) (sym e) (cond (eqb (y % 2) 0) (outgoing P (y / 2)) (incoming P (y / 2))) ∙ rw (eq-eqb (y % 2) (z % 2) e) (half (eqb (y % 2) 0))
 
-module _ (b : List ℕ) (z : Sizes) (s : Stored b z) (A : List ℕ) (m : ℕ) (all : AllListed b A m) (long : 63488 ≤ length A) where
-  pub bounded : Bounded (arcsIn A m) (z .nodes + z .edges)
-  bounded =
-      subst (λ (y : Sizes). Bounded (arcsIn A m) (y .nodes + y .edges)) (sym (s .sizes))
-      (subst (λ (l : List Arc). Bounded l (vertexCount (graphOf b))) (sym (all .is-arcs)) (proper-bounded (graphOf b) (s .formed .proper)))
+  pub listed : (lists : ℕ → List ℕ) → ((y : ℕ) → y < 2 * n → lists y ≡ neighbours P y) → Listed P n lists
+  listed lists e = record {
+    right = λ y z l. ap (times z) (e y l) ∙ neighbours-times y z;
+    low = λ y t l m. neighbours-low y t (subst (In t) (e y l) m);
+  }
 
-  pub lows : Low A 0 m (z .nodes + z .edges) × Low A 8192 m (z .nodes + z .edges)
-  lows = listed-low A m (z .nodes + z .edges) (all .few) (omega arith) bounded
+  -- and the degrees those of all vertices
+  pub degrees-within : (y : ℕ) → length (neighbours P (mate y)) ≡ within P (vertices n) y
+  unfolding neighbours within into out
+  degrees-within y = length-map (cond (eqb (mate y % 2) 0) (outgoing P (mate y / 2)) (incoming P (mate y / 2))) (λ x. 2 * x + mate y % 2) ∙ go (ℕ-discrete (y % 2) 0)
+    where
+      go : Dec (y % 2 ≡ 0) → length (cond (eqb (mate y % 2) 0) (outgoing P (mate y / 2)) (incoming P (mate y / 2))) ≡ cond (eqb (y % 2) 0) (into P (vertices n) (y / 2)) (out P (vertices n) (y / 2))
+      go (yes e) =
+          let v : mate y / 2 ≡ y / 2 = omega arith in
+          rw (ne-eqb (mate y % 2) 0 (λ q. omega arith), eq-eqb (y % 2) 0 e, v) (ends-all (λ a. a .to) (λ a. a .from) P n (λ a m. bounded (a .from) (a .to) m .0) (y / 2))
+      go (no e) =
+          let v : mate y / 2 ≡ y / 2 = omega arith in
+          rw (eq-eqb (mate y % 2) 0 (omega arith), ne-eqb (y % 2) 0 e, v) (ends-all (λ a. a .from) (λ a. a .to) P n (λ a m. bounded (a .from) (a .to) m .1) (y / 2))
 
-  module _ (few : z .nodes + z .edges ≤ 4096) (B : List ℕ) (o : Grouped A B 0 8192 59392 16384 (z .nodes + z .edges) m) where
-    -- the arcs are where they were
-    froms-same : (k : ℕ) → k < m → getD B (0 + k) 0 ≡ getD A (0 + k) 0
-    froms-same k h = o .same (0 + k) (inl (omega (arith, all .few))) (inl (omega (arith, all .few)))
+-- ---- counted, laid out, filled
 
-    tos-same : (k : ℕ) → k < m → getD B (8192 + k) 0 ≡ getD A (8192 + k) 0
-    tos-same k h = o .same (8192 + k) (inl (omega (arith, all .few))) (inl (omega (arith, all .few)))
+module _ (s : Source) (g : Graph) (z : Sizes) (f : Facts g z) (X : List ℕ) (c : CountedTo s g X (z .edges)) where
+  abbrev size : ℕ → ℕ
+  size u = length (neighbours (arcsTo g (length (g .edges))) u)
 
-    pub low-again : Low B 8192 m (z .nodes + z .edges)
-    low-again k h = omega (arith, tos-same k h, lows .1 k h)
+  sizes : (u : ℕ) → u < 2 * length (g .labels) → getD X (mate u) 0 ≡ size u
+  sizes u l =
+      let e : mate (mate u) ≡ u = omega arith in
+      let v : mate u / 2 ≡ u / 2 = omega arith in
+      let h : u / 2 < length (g .labels) = omega arith in
+      let m : mate u / 2 < length (g .labels) + z .edges = omega arith in
+      c .degrees (mate u) (omega arith) ∙ (λ i. length (neighbours (arcsTo g (f .edges i)) (e i)))
 
-    from-part : part B 0 m ≡ part A 0 m
-    from-part = part-ext A B 0 m (o .long) (omega (arith, all .few)) froms-same
+  sums : (k : ℕ) → k ≤ 2 * length (g .labels) → sumTo (λ u. getD X (mate u) 0) k ≡ sumTo size k
+  sums k l = sum-same (λ u. getD X (mate u) 0) size k (λ u h. sizes u (omega arith))
 
-    to-part : part B 8192 m ≡ part A 8192 m
-    to-part = part-ext A B 8192 m (o .long) (omega (arith, all .few)) tos-same
+  pub fits-table : sumTo (λ u. getD X (mate u) 0) (2 * z .nodes) ≤ mostPorts
+  fits-table = omega (arith, sums (2 * z .nodes) (omega (arith, f .nodes)), ap (λ (n : ℕ). sumTo size (2 * n)) (f .nodes), room-for-all g (f .known), f .few-ports)
 
-    module _ (X : List ℕ) (i : Grouped B X 8192 0 55296 32768 (z .nodes + z .edges) m) where
-      from-same : part X 0 m ≡ part A 0 m
-      from-same =
-          part-ext B X 0 m (i .long) (omega (arith, all .few, o .long)) (λ k h. i .same (0 + k) (inl (omega (arith, all .few))) (inl (omega (arith, all .few)))) ∙ from-part
+  module _ (Y : List ℕ) (l : LaidOut X Y (2 * z .nodes)) where
+    pub empty : Empty g Y
+    empty = record {
+      start = λ y h. l .start y (omega (arith, f .nodes)) ∙ sums y (omega arith);
+      none = λ y h. l .none y (omega (arith, f .nodes));
+    }
 
-      to-same : part X 8192 m ≡ part A 8192 m
-      to-same =
-          part-ext B X 8192 m (i .long) (omega (arith, all .few, o .long)) (λ k h. i .same (8192 + k) (inl (omega (arith, all .few))) (inl (omega (arith, all .few)))) ∙ to-part
+    module _ (Z : List ℕ) (w : ListsFilled Y Z (2 * z .nodes) (neighbours (arcsTo g (z .edges)))) where
+      n-is : z .nodes ≡ length (g .labels)
+      n-is = f .nodes
 
-      arcs-same : arcsIn X m ≡ arcsIn A m
-      unfolding arcsIn
-      arcs-same = λ j. zip (from-same j) (to-same j)
+      all : arcsTo g (z .edges) ≡ arcs g
+      all = unfold arcs in (ap (arcsTo g) (f .edges) ∙ ap (arcsFrom (length (g .labels))) (take-length (g .edges)))
 
-      equal : length (part A 0 m) ≡ length (part A 8192 m)
-      equal = part-length A 0 m (omega (arith, all .few)) ∙ sym (part-length A 8192 m (omega (arith, all .few)))
+      -- the words of an edge's lists are as they were counted
+      edge-word : (i : ℕ) → listsAt + 4 * length (g .labels) ≤ i → i < entriesAt → getD Z i 0 ≡ getD X i 0
+      edge-word i a h = w .between i (omega arith) h ∙ l .frame .same i (inr (omega arith))
 
-      -- the first lists are where they were
-      out-start : (v : ℕ) → v < z .nodes + z .edges → getD X (16384 + v) 0 ≡ getD B (16384 + v) 0
-      out-start v h = i .same (16384 + v) (inl (omega arith)) (inl (omega arith))
+      node-list : (y : ℕ) → y < 2 * length (g .labels) → listIn s Z (length (g .labels)) y ≡ neighbours (arcs g) y
+      node-list y h =
+          let k : y < 2 * z .nodes = omega arith in
+          list-room s Z (length (g .labels)) y h ∙ (λ i. roomList Z (w .starts y k i) (w .counts y k i)) ∙ w .entries y k ∙ ap (λ (P : List Arc). neighbours P y) all
 
-      out-count : (v : ℕ) → v < z .nodes + z .edges → getD X (16384 + 4096 + v) 0 ≡ getD B (16384 + 4096 + v) 0
-      out-count v h = i .same (16384 + 4096 + v) (inl (omega arith)) (inl (omega arith))
+      edge-list : (y : ℕ) → 2 * length (g .labels) ≤ y → y < 2 * vertexCount g → listIn s Z (length (g .labels)) y ≡ neighbours (arcs g) y
+      edge-list y a h =
+          list-form s Z (length (g .labels)) y a
+          ∙ (λ i. formList s (edge-word (listsAt + 2 * y) (omega arith) (omega (arith, f .few)) i) (edge-word (listsAt + 2 * y + 1) (omega arith) (omega (arith, f .few)) i) (y % 2))
+          ∙ c .lists y a (omega (arith, f .edges)) ∙ ap (λ (P : List Arc). neighbours P y) all
 
-      out-list : (v : ℕ) → v < z .nodes + z .edges → ends X 16384 v ≡ ends B 16384 v
-      out-list v h =
-          let s = getD B (16384 + v) 0 in
-          let k = getD B (16384 + 4096 + v) 0 in
-          ends-part X 16384 v ∙ (λ j. part X (16384 + 8192 + out-start v h j) (out-count v h j))
-          ∙ part-ext B X (16384 + 8192 + s) k (i .long) (omega (arith, all .few, o .inside v h, o .long))
-          (λ j l. i .same (16384 + 8192 + s + j) (inl (omega (arith, all .few, o .inside v h))) (inl (omega (arith, all .few, o .inside v h))))
-          ∙ sym (ends-part B 16384 v)
+      lists : (y : ℕ) → y < 2 * vertexCount g → listIn s Z (length (g .labels)) y ≡ neighbours (arcs g) y
+      lists y h = go (decLt y (2 * length (g .labels)))
+        where
+          go : Dec (y < 2 * length (g .labels)) → listIn s Z (length (g .labels)) y ≡ neighbours (arcs g) y
+          go (yes a) = node-list y a
+          go (no a) = edge-list y (omega arith) h
 
-      out-is : (v : ℕ) → v < z .nodes + z .edges → ends X 16384 v ≡ outgoing (arcsIn A m) v
-      unfolding arcsIn
-      out-is v h = out-list v h ∙ o .is-list v h ∙ sym (outgoing-zip v (part A 0 m) (part A 8192 m))
-
-      in-is : (v : ℕ) → v < z .nodes + z .edges → ends X 32768 v ≡ incoming (arcsIn A m) v
-      unfolding arcsIn
-      in-is v h = i .is-list v h ∙ ap (λ (l : List ℕ). endsOf v l (part B 0 m)) to-part ∙ ap (endsOf v (part A 8192 m)) from-part ∙ sym (incoming-zip v (part A 0 m) (part A 8192 m))
-
-      in-count : (v : ℕ) → v < z .nodes + z .edges → getD X (55296 + v) 0 ≡ length (incoming (arcsIn A m) v)
-      unfolding arcsIn
-      in-count v h =
-          i .count v h ∙ ap (times v) to-part ∙ sym (length-ends v (part A 8192 m) (part A 0 m) (sym equal)) ∙ ap length (sym (incoming-zip v (part A 0 m) (part A 8192 m)))
-
-      out-degree : (v : ℕ) → v < z .nodes + z .edges → getD X (59392 + v) 0 ≡ length (outgoing (arcsIn A m) v)
-      unfolding arcsIn
-      out-degree v h =
-          i .same (59392 + v) (inr (omega arith)) (inr (omega arith)) ∙ o .count v h
-          ∙ sym (length-ends v (part A 0 m) (part A 8192 m) equal) ∙ ap length (sym (outgoing-zip v (part A 0 m) (part A 8192 m)))
-
-      pub built : Built b X (z .nodes + z .edges) m
-      built = record {
-        few = all .few;
-        is-ports = all .is-ports;
-        is-arcs = arcs-same ∙ all .is-arcs;
-        lists = subst (λ (l : List Arc). Incidence l (z .nodes + z .edges) X) (sym arcs-same) (record {
-          is-out = out-is;
-          is-in = in-is;
-          out-inside = λ v h. omega (arith, all .few, o .inside v h, out-start v h, out-count v h);
-          in-inside = λ v h. omega (arith, all .few, i .inside v h);
-        });
-        degrees = subst (λ (l : List Arc). Degrees l (z .nodes + z .edges) X) (sym arcs-same) (record { is-indegree = in-count; is-outdegree = out-degree });
+      pub built : Bounded (arcs g) (vertexCount g) → Built s g Z
+      built b = record {
+        degrees = λ y h.
+            w .before y (omega (arith, f .few)) ∙ l .frame .same y (inl (omega (arith, f .few))) ∙ c .degrees y (omega (arith, f .edges)) ∙ ap (λ (P : List Arc). length (neighbours P (mate y))) all;
+        lists = lists;
+        inside = record {
+          room-inside = λ y h.
+              let k : y < 2 * z .nodes = omega arith in
+              omega (
+                arith,
+                w .starts y k,
+                w .counts y k,
+                empty .start y h,
+                ap (λ (n : ℕ). length (neighbours (arcsTo g n) y)) (f .edges),
+                sum-apart size y (2 * length (g .labels)) h,
+                room-for-all g (f .known),
+                f .few-ports,
+              );
+          form-inside = λ y a h.
+              subst (Holds (s .bytes) (s .row)) (λ i. sym (edge-word (listsAt + 2 * y) (omega arith) (omega (arith, f .few))) i + sym (edge-word (listsAt + 2 * y + 1) (omega arith) (omega (arith, f .few))) i)
+              (c .held y a (omega (arith, f .edges)));
+          low = λ y h. subst (AllLow (vertexCount g)) (sym (lists y h)) (neighbours-low (arcs g) (vertexCount g) b y);
+        };
       }

@@ -1,2 +1,2 @@
-pub mod Tables
-pub mod Listed
+-- The incidence graph of a stored drawing: what its tables say, and what each step of making them leaves.
+pub mod Incidence

@@ -1,178 +1,148 @@
-// The incidence graph of a stored drawing, in the words of a lent room: its arcs one by one, for each vertex a start and a length in a flat list of what
-// it leads to, the same of what leads to it, and the degrees.
+// The incidence graph of a stored drawing, in the tables of a lent room: the degree of each half, and where its list starts and how long it is. The lists of
+// an edge are its ids in the form; those of the nodes are counted, laid out one after the other, and filled.
 ghost use mathlib.Core.Path.{_≡_};
-ghost use Prim.Native.Nat.{ℕ, _+_, _*_, _<_, _≤_};
-ghost use lib.ListN.{length, getD, set, replicate};
+ghost use Prim.Native.Nat.{ℕ, _+_, _*_, _<_, _≤_, _^_};
+ghost use lib.ListN.{length, getD, take, replicate};
 ghost use lib.Seq.{sets};
 ghost use Rattle.le.specs.Le.{words};
-ghost use Rattle.le.specs.Rows.{Holds, span};
-ghost use Rattle.form.specs.Stored.{Stored};
-ghost use Rattle.incidence.specs.Listed.{Appended, AllListed, Low, Counts, LaidOut, Empties, Filled, Grouped, Built};
-use form::EdgeAt;
+ghost use Rattle.le.specs.Rows.{Holds};
+ghost use Rattle.choice.specs.Arcs.{In};
+ghost use Rattle.graph.specs.Form.{edgeStart};
+ghost use Rattle.form.specs.Form.{bodyOf};
+ghost use Rattle.form.specs.Stored.{Stored, graphOf};
+ghost use Rattle.halves.specs.Halves.{mate, sumTo};
+ghost use Rattle.tables.specs.Tables.{mostVertices, mostPorts, listsAt, roomRemoval};
+ghost use Rattle.removal.specs.Room.{source, startOf, countOf, formList, AllLow};
+ghost use Rattle.incidence.specs.Incidence.{neighbours, arcsTo, bumpAll, noted, CountedTo, LaidOut, appended, appendedAll, ListsFilled, Empty, Built};
 use form::Sizes;
 use le::Row;
 
-// Where the tables stand, in words.
-pub const FROM: usize = 0;
-
-pub const TO: usize = 8192;
-
-pub const OUTGOING: usize = 16384;
-
-pub const INCOMING: usize = 32768;
-
-pub const INDEGREE: usize = 55296;
-
-pub const OUTDEGREE: usize = 59392;
-
-// From the starts of a table of lists to their lengths, and to their entries.
-pub const LENGTHS: usize = 4096;
-
-pub const ENTRIES: usize = 8192;
-
-// n times v, from word `off` on.
-pub fn put_same(room: &mut [u8], off: usize, n: usize, v: u32)
+// n zeros from word `off` on.
+pub fn clear(room: &mut [u8], off: usize, n: usize)
     requires { ⌜ 4 * (off + n) ≤ length (now room) ⌝ }
-    ensures { λ _. ⌜ words (now (room .exit)) ≡ sets (words (now (room .entry))) off (replicate n v) ⌝ }
+    ensures { λ _. ⌜ words (now (room .exit)) ≡ sets (words (now (room .entry))) off (replicate n 0) ⌝ }
 {
     for k in 0..n {
-        le::set_word(room, off + k, v);
+        le::set_word(room, off + k, 0);
     }
 }
 
-// n ids of a row, from number j on, from word `off` on.
-fn put_ids(room: &mut [u8], off: usize, src: &[u8], r: Row, j: usize, n: usize)
-    requires { ⌜ (4 * (off + n) ≤ length (now room)) × Holds (now src) r (j + n) ⌝ }
-    ensures { λ _. ⌜ words (now (room .exit)) ≡ sets (words (now (room .entry))) off (span (now (src .entry)) r j n) ⌝ }
+// Degree of half y, and start and length of its list.
+fn note(room: &mut [u8], y: usize, degree: usize, start: usize, count: usize)
+    requires { ⌜ (y < listsAt) × (degree < 2 ^ 32) × (start < 2 ^ 32) × (count < 2 ^ 32) × (roomRemoval ≤ length (now room)) ⌝ }
+    ensures { λ _. ⌜ words (now (room .exit)) ≡ noted y degree start count (words (now (room .entry))) ⌝ }
 {
-    for k in 0..n {
-        let id = le::number(src, r, j + k);
-        le::set_word(room, off + k, id as u32);
+    le::set_word(room, y, degree as u32);
+    le::set_word(room, tables::LISTS + 2 * y, start as u32);
+    le::set_word(room, tables::LISTS + 2 * y + 1, count as u32);
+}
+
+// One arc more at one half of each of these nodes.
+fn count_ids(room: &mut [u8], src: &[u8], r: Row, first: usize, count: usize, side: usize)
+    requires { ⌜ Holds (now src) r (first + count) × (side < 2) × (roomRemoval ≤ length (now room)) ⌝ }
+    requires { ⌜ AllLow mostVertices (formList (source (now src) r) first count side) ⌝ }
+    requires { ⌜ ((y : ℕ) → In y (formList (source (now src) r) first count side) → getD (words (now room)) y 0 + count < 2 ^ 32) ⌝ }
+    ensures { λ _. ⌜ words (now (room .exit)) ≡ bumpAll (formList (source (now (src .entry)) r) first count side) (words (now (room .entry))) ⌝ }
+{
+    for j in 0..count {
+        let id = le::number(src, r, first + j);
+        let y = 2 * id + side;
+        let d = le::word(room, y);
+        le::set_word(room, y, d + 1);
     }
 }
 
-// The arcs of an edge after k arcs: from its sources to it, and from it to its targets.
-fn put_edge(room: &mut [u8], src: &[u8], r: Row, e: EdgeAt, k: usize, vertex: usize)
-    requires { ⌜ (65536 ≤ length (now room)) × (k + (e .sources + e .targets) ≤ 8192) × (vertex < 65536) × Holds (now src) r (e .first + e .sources + e .targets) ⌝ }
-    ensures { λ _. ⌜ Appended (words (now (room .entry))) (words (now (room .exit))) k vertex
-        (span (now (src .entry)) r (e .first) (e .sources)) (span (now (src .entry)) r (e .first + e .sources) (e .targets)) ⌝ }
+// Edge i, which begins at index k: its halves noted, and its ports counted at its nodes; answered is where the next edge begins.
+fn count_edge(room: &mut [u8], src: &[u8], z: Sizes, i: usize, k: usize) -> usize
+    requires { ⌜ Stored (now src) z × (i < z .edges) × (k ≡ edgeStart (graphOf (now src) .edges) i) × (roomRemoval ≤ length (now room)) ⌝ }
+    requires { ⌜ CountedTo (source (now src) (bodyOf z)) (graphOf (now src)) (words (now room)) i ⌝ }
+    ensures { λ next. ⌜ (next ≡ edgeStart (graphOf (now (src .entry)) .edges) (i + 1))
+        × CountedTo (source (now (src .entry)) (bodyOf z)) (graphOf (now (src .entry))) (words (now (room .exit))) (i + 1) ⌝ }
 {
-    let v = vertex as u32;
-    put_ids(room, FROM + k, src, r, e.first, e.sources);
-    put_same(room, TO + k, e.sources, v);
-    put_same(room, FROM + k + e.sources, e.targets, v);
-    put_ids(
-        room,
-        TO + k + e.sources,
-        src,
-        r,
-        e.first + e.sources,
-        e.targets,
-    );
+    let r = form::body_row(z);
+    let e = form::edge_at(src, r, k);
+    let y = 2 * (z.nodes + i);
+    note(room, y, e.sources, e.first + e.sources, e.targets);
+    note(room, y + 1, e.targets, e.first, e.sources);
+    count_ids(room, src, r, e.first, e.sources, 1);
+    count_ids(room, src, r, e.first + e.sources, e.targets, 0);
+    e.end
 }
 
-// The arcs of all edges, and how many there are.
-fn list_arcs(room: &mut [u8], src: &[u8], z: Sizes) -> usize
-    requires { ⌜ 65536 ≤ length (now room) ⌝ }
-    requires { ⌜ Stored (now src) z ⌝ }
-    ensures { λ r. ⌜ AllListed (now (src .entry)) (words (now (room .exit))) r ⌝ }
+// All degrees, and the lists of the edges.
+fn count(room: &mut [u8], src: &[u8], z: Sizes)
+    requires { ⌜ Stored (now src) z × (roomRemoval ≤ length (now room)) ⌝ }
+    ensures { λ _. ⌜ CountedTo (source (now (src .entry)) (bodyOf z)) (graphOf (now (src .entry))) (words (now (room .exit))) (z .edges) ⌝ }
 {
-    let row = form::body_row(z);
-    let mut at: usize = 0;
+    clear(room, 0, 2 * z.nodes);
     let mut k: usize = 0;
     for i in 0..z.edges {
-        let e = form::edge_at(src, row, at);
-        put_edge(room, src, row, e, k, z.nodes + i);
-        at = e.end;
-        k = k + (e.sources + e.targets);
-    }
-    k
-}
-
-// One more in the word at i.
-fn bump(room: &mut [u8], i: usize)
-    requires { ⌜ (4 * i + 4 ≤ length (now room)) × (getD (words (now room)) i 0 < 65536) ⌝ }
-    ensures { λ _. ⌜ words (now (room .exit)) ≡ set (words (now (room .entry))) i (getD (words (now (room .entry))) i 0 + 1) ⌝ }
-{
-    let v = le::word(room, i);
-    le::set_word(room, i, v + 1);
-}
-
-// How often each of n vertices stands among the m words from `near` on.
-fn count_ends(room: &mut [u8], near: usize, degree: usize, n: usize, m: usize)
-    requires { ⌜ (near + m ≤ degree) × (m ≤ 8192) × (4 * (degree + n) ≤ length (now room)) ⌝ }
-    requires { ⌜ Low (words (now room)) near m n ⌝ }
-    ensures { λ _. ⌜ Counts (words (now (room .entry))) (words (now (room .exit))) near degree n m ⌝ }
-{
-    put_same(room, degree, n, 0);
-    for k in 0..m {
-        let v = le::word(room, near + k) as usize;
-        bump(room, degree + v);
+        k = count_edge(room, src, z, i, k);
     }
 }
 
-// The starts of n empty lists with room for as many entries as the words from `degree` on say.
-fn lay_out(room: &mut [u8], degree: usize, lists: usize, n: usize)
-    requires { ⌜ (lists + 16384 ≤ degree) × (n ≤ 4096) × (4 * (degree + n) ≤ length (now room)) ⌝ }
-    requires { ⌜ ((v : ℕ) → v < n → getD (words (now room)) (degree + v) 0 ≤ 8192) ⌝ }
-    ensures { λ _. ⌜ LaidOut (words (now (room .entry))) (words (now (room .exit))) degree lists n ⌝ }
+// The starts of the first n lists, each with room for as many entries as its half's mate has arcs.
+fn lay_out(room: &mut [u8], n: usize)
+    requires { ⌜ (n ≤ listsAt) × (roomRemoval ≤ length (now room)) × (sumTo (λ u. getD (words (now room)) (mate u) 0) n ≤ mostPorts) ⌝ }
+    ensures { λ _. ⌜ LaidOut (words (now (room .entry))) (words (now (room .exit))) n ⌝ }
 {
-    let mut sum: u32 = 0;
-    for v in 0..n {
-        let d = le::word(room, degree + v);
-        le::set_word(room, lists + v, sum);
-        le::set_word(room, lists + LENGTHS + v, 0);
-        sum = sum + d;
+    let mut sum: usize = 0;
+    for y in 0..n {
+        le::set_word(room, tables::LISTS + 2 * y, sum as u32);
+        le::set_word(room, tables::LISTS + 2 * y + 1, 0);
+        let size = le::word(room, y + 1 - 2 * (y % 2)) as usize;
+        sum += size;
     }
 }
 
-// x at the end of the list of v.
-fn put_entry(room: &mut [u8], lists: usize, v: usize, x: u32)
-    requires { ⌜ (v < 4096) × (4 * (lists + 16384) ≤ length (now room)) ⌝ }
-    requires { ⌜ getD (words (now room)) (lists + v) 0 + getD (words (now room)) (lists + 4096 + v) 0 < 8192 ⌝ }
-    ensures { λ _. ⌜ words (now (room .exit))
-        ≡ set (set (words (now (room .entry))) (lists + 8192 + (getD (words (now (room .entry))) (lists + v) 0 + getD (words (now (room .entry))) (lists + 4096 + v) 0)) x)
-        (lists + 4096 + v) (getD (words (now (room .entry))) (lists + 4096 + v) 0 + 1) ⌝ }
+// t at the end of the list of half y.
+fn append(room: &mut [u8], y: usize, t: u32)
+    requires { ⌜ (y < listsAt) × (roomRemoval ≤ length (now room)) × (startOf (words (now room)) y + countOf (words (now room)) y < mostPorts) ⌝ }
+    ensures { λ _. ⌜ words (now (room .exit)) ≡ appended y t (words (now (room .entry))) ⌝ }
 {
-    let start = le::word(room, lists + v) as usize;
-    let count = le::word(room, lists + LENGTHS + v);
-    le::set_word(room, lists + ENTRIES + (start + count as usize), x);
-    le::set_word(room, lists + LENGTHS + v, count + 1);
+    let start = le::word(room, tables::LISTS + 2 * y) as usize;
+    let count = le::word(room, tables::LISTS + 2 * y + 1);
+    le::set_word(room, tables::ENTRIES + (start + count as usize), t);
+    le::set_word(room, tables::LISTS + 2 * y + 1, count + 1);
 }
 
-// The other end of each of m arcs, put into the list of its end among the words from `near` on.
-fn fill(room: &mut [u8], near: usize, far: usize, lists: usize, n: usize, m: usize)
-    requires { ⌜ (near + m ≤ lists) × (far + m ≤ lists) × (n ≤ 4096) × (m ≤ 8192) × (4 * (lists + 16384) ≤ length (now room)) ⌝ }
-    requires { ⌜ Empties (words (now room)) near lists n m ⌝ }
-    ensures { λ _. ⌜ Filled (words (now (room .entry))) (words (now (room .exit))) near far lists n m ⌝ }
+// t at the end of the list of one half of each of these nodes.
+fn append_ids(room: &mut [u8], src: &[u8], r: Row, first: usize, count: usize, side: usize, t: u32)
+    requires { ⌜ Holds (now src) r (first + count) × (side < 2) × (roomRemoval ≤ length (now room)) ⌝ }
+    requires { ⌜ AllLow mostVertices (formList (source (now src) r) first count side) ⌝ }
+    requires { ⌜ ((j : ℕ) → j < count → let ys = formList (source (now src) r) first count side in let W = appendedAll (take j ys) t (words (now room)) in
+        startOf W (getD ys j 0) + countOf W (getD ys j 0) < mostPorts) ⌝ }
+    ensures { λ _. ⌜ words (now (room .exit)) ≡ appendedAll (formList (source (now (src .entry)) r) first count side) t (words (now (room .entry))) ⌝ }
 {
-    for k in 0..m {
-        let v = le::word(room, near + k) as usize;
-        let x = le::word(room, far + k);
-        put_entry(room, lists, v, x);
+    for j in 0..count {
+        let id = le::number(src, r, first + j);
+        append(room, 2 * id + side, t);
     }
 }
 
-// Degrees and lists of n vertices by one end of m arcs.
-fn group(room: &mut [u8], near: usize, far: usize, degree: usize, lists: usize, n: usize, m: usize)
-    requires { ⌜ (near + m ≤ lists) × (far + m ≤ lists) × (lists + 16384 ≤ degree) × (n ≤ 4096) × (m ≤ 8192) × (4 * (degree + n) ≤ length (now room)) ⌝ }
-    requires { ⌜ Low (words (now room)) near m n ⌝ }
-    ensures { λ _. ⌜ Grouped (words (now (room .entry))) (words (now (room .exit))) near far degree lists n m ⌝ }
+// The nodes' lists.
+fn fill(room: &mut [u8], src: &[u8], z: Sizes)
+    requires { ⌜ Stored (now src) z × (roomRemoval ≤ length (now room)) ⌝ }
+    requires { ⌜ Empty (graphOf (now src)) (words (now room)) ⌝ }
+    ensures { λ _. ⌜ ListsFilled (words (now (room .entry))) (words (now (room .exit))) (2 * z .nodes) (neighbours (arcsTo (graphOf (now (src .entry))) (z .edges))) ⌝ }
 {
-    count_ends(room, near, degree, n, m);
-    lay_out(room, degree, lists, n);
-    fill(room, near, far, lists, n, m);
+    let r = form::body_row(z);
+    let mut k: usize = 0;
+    for i in 0..z.edges {
+        let e = form::edge_at(src, r, k);
+        let y = (2 * (z.nodes + i)) as u32;
+        append_ids(room, src, r, e.first, e.sources, 0, y);
+        append_ids(room, src, r, e.first + e.sources, e.targets, 1, y + 1);
+        k = e.end;
+    }
 }
 
-// The incidence graph of a stored drawing; answered is how many arcs it has.
-pub fn build(room: &mut [u8], src: &[u8], z: Sizes) -> usize
-    requires { ⌜ 253952 ≤ length (now room) ⌝ }
-    requires { ⌜ Stored (now src) z ⌝ }
-    ensures { λ r. ⌜ Built (now (src .entry)) (words (now (room .exit))) (z .nodes + z .edges) r ⌝ }
+// The incidence graph of the stored drawing.
+pub fn build(room: &mut [u8], src: &[u8], z: Sizes)
+    requires { ⌜ Stored (now src) z × (roomRemoval ≤ length (now room)) ⌝ }
+    ensures { λ _. ⌜ Built (source (now (src .entry)) (bodyOf z)) (graphOf (now (src .entry))) (words (now (room .exit))) ⌝ }
 {
-    let m = list_arcs(room, src, z);
-    let n = z.nodes + z.edges;
-    group(room, FROM, TO, OUTDEGREE, OUTGOING, n, m);
-    group(room, TO, FROM, INDEGREE, INCOMING, n, m);
-    m
+    count(room, src, z);
+    lay_out(room, 2 * z.nodes);
+    fill(room, src, z);
 }

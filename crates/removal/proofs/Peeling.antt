@@ -1,194 +1,144 @@
--- Entries are taken off the waiting list one by one, until it is empty: then what remains is stable.
+-- The loop that walks the halves that wait, as the model does: start, turn and done.
 -- Assumes nothing.
-use mathlib.Core.List.{List, [], _∷_, _++_, List·Memᴰ·append-cases, List·Memᴰ·eq-of-singleton, List·Memᴰ·not-nil}
-use mathlib.Core.Logic.{_⊎_, inl, inr, ⊎-elim}
 use mathlib.Core.Path.{_≡_, refl, sym, ap, _∙_, subst}
-use Prim.Native.Nat.{ℕ, suc, _+_, _-_, _≤_, _<_}
-use native.Mathlib.Decide.{decLt}
-use native.Mathlib.Nat.{add-zero, zero-add}
+use mathlib.Core.Bool.{Bool, true, false, cond}
+use mathlib.Core.List.{List, [], _∷_, _++_}
+use mathlib.Core.Logic.{inl}
+use Prim.Native.Nat.{ℕ, zero, suc, _+_, _-_, _*_, _%_, _≤_, _<_}
+use native.Mathlib.Nat.{le-refl}
+use native.Mathlib.Numerals.{add-one}
 use native.Mathlib.Omega.{arith}
-use lib.Dec.{T}
-use lib.ListN.{length, getD}
-use Rattle.choice.specs.Arcs.{Arc, In, Set, has, without, size, into, out, Loose, Stable}
-use Rattle.choice.specs.Choice.{Peels, rest, peel, taken}
-use Rattle.incidence.specs.Tables.{part, arcsIn, indegrees, outdegrees}
-use Rattle.removal.specs.Engine.{Kept, live, actives, insOf, outsOf, waitings, candidatesAt, waitList, State, Removable, Removed, Once, Peeled}
-use Rattle.choice.specs.Degrees.{inner}
-use Rattle.choice.proofs.Degrees.{howMany-length}
-use Rattle.choice.proofs.Sets.{gone, without-subset, size-without}
-use Rattle.incidence.proofs.Parts.{part-at, part-snoc}
-use Rattle.removal.proofs.Frames.{kept-none, kept-trans, live-low, live-length}
+use lib.Dec.{eqb}
+use lib.ListN.{length, getD, set, length-append}
+use borrow.Author.Tests.{lt-ltb, le-ltb}
+use Rattle.le.specs.Rows.{Holds}
+use Rattle.halves.specs.Halves.{mate, Halves, lower, lowerAll, peelFrom}
+use Rattle.tables.specs.Tables.{mostVertices, listsAt, waitingAt, pickedAt}
+use Rattle.removal.specs.Room.{Source, halvesIn, startOf, countOf, roomList, formList, listIn, AllLow, Steady, Roomy, Went, Lists}
+use Rattle.removal.proofs.Rooms.{roomy-all}
+use Rattle.removal.proofs.Tables.{part-length, part-at, steady-none, steady-trans, list-same, list-steady}
+use Rattle.removal.proofs.Walks.{in-getD}
 
-module _ (arcs : List Arc) (n m selectable : ℕ) (W : List ℕ) (waiting candidates : ℕ) (s : State arcs n m selectable W waiting candidates) where
-  few : n ≤ 4096
-  few = s .fixed .few-vertices
+-- ---- the list of a half, where it stands
 
-  long : candidatesAt ≤ length W
-  long = s .fixed .long
+pub list-room : (s : Source) (W : List ℕ) (nodes y : ℕ) → y < 2 * nodes → listIn s W nodes y ≡ roomList W (startOf W y) (countOf W y)
+unfolding listIn
+list-room s W nodes y l = rw (lt-ltb y (2 * nodes) l)
 
-  pub ins-are : (v : ℕ) → T (has (live W n) v) → insOf W v ≡ into arcs (live W n) v
-  ins-are v t = sym (part-at W indegrees n v (live-low W n (omega (arith, few, long)) v t)) ∙ s .counted .ins-right v t
+pub list-form : (s : Source) (W : List ℕ) (nodes y : ℕ) → 2 * nodes ≤ y → listIn s W nodes y ≡ formList s (startOf W y) (countOf W y) (y % 2)
+unfolding listIn
+list-form s W nodes y l = rw (le-ltb y (2 * nodes) l)
 
-  pub outs-are : (v : ℕ) → T (has (live W n) v) → outsOf W v ≡ out arcs (live W n) v
-  outs-are v t = sym (part-at W outdegrees n v (live-low W n (omega (arith, few, long)) v t)) ∙ s .counted .outs-right v t
+-- the places of the lists are as they were
+pub lists-same : (s : Source) (W X : List ℕ) (nodes n : ℕ) → n ≤ mostVertices → nodes ≤ n → pickedAt ≤ length W → length X ≡ length W
+    → ((i : ℕ) → listsAt ≤ i → i < waitingAt → getD X i 0 ≡ getD W i 0) → Lists s W nodes n → Lists s X nodes n
+lists-same s W X nodes n few less long e t l = record {
+  room-inside = λ y k. omega (arith, l .room-inside y k, start y (omega arith), count y (omega arith));
+  form-inside = λ y a k. subst (Holds (s .bytes) (s .row)) (λ i. sym (start y (omega arith)) i + sym (count y (omega arith)) i) (l .form-inside y a k);
+  low = λ y k. subst (AllLow n) (sym (list-same s W X nodes y (omega arith) e t (omega arith) (l .room-inside y))) (l .low y k);
+}
+  where
+    start : (y : ℕ) → y < listsAt → startOf X y ≡ startOf W y
+    start y k = t (listsAt + 2 * y) (omega arith) (omega arith)
 
-  -- the waiting list has its room
-  pub waiting-few : waiting ≤ 12288
-  waiting-few = omega (arith, s .wait-room, few, s .fixed .few-arcs)
+    count : (y : ℕ) → y < listsAt → countOf X y ≡ countOf W y
+    count y k = t (listsAt + 2 * y + 1) (omega arith) (omega arith)
 
-  module _ (v : ℕ) (some : 0 < waiting) (is : v ≡ getD W (waitings + (waiting - 1)) 0) where
-    pub entry-low : v < n
-    entry-low = omega (arith, is, s .held .low (waiting - 1) (omega arith))
+pub lists-steady : (s : Source) (W X : List ℕ) (nodes n : ℕ) → n ≤ mostVertices → nodes ≤ n → pickedAt ≤ length W → Steady W X → Lists s W nodes n → Lists s X nodes n
+lists-steady s W X nodes n few less long t l = lists-same s W X nodes n few less long (t .long) (λ i a b. t .same i a (inl b)) l
 
-    -- the list is the rest of it and v
-    last : waitList W waiting ≡ waitList W (waiting - 1) ++ (v ∷ [])
-    last =
-        let e : waiting ≡ waiting - 1 + 1 = omega arith in
-        ap (waitList W) e ∙ part-snoc W waitings (waiting - 1) (omega (arith, waiting-few, long)) ∙ ap (λ (x : ℕ). waitList W (waiting - 1) ++ (x ∷ [])) (sym is)
+-- ---- nobody leaves the waiting list
 
-    -- another entry is in the rest
-    others : (u : ℕ) → (u ≡ v → ⊥) → In u (waitList W waiting) → In u (waitList W (waiting - 1))
-    others u f k = ⊎-elim (λ h. h) (λ h. absurd (f (List·Memᴰ·eq-of-singleton h))) (List·Memᴰ·append-cases (waitList W (waiting - 1)) (subst (λ (l : List ℕ). In u l) last k))
+lower-grows : (y : ℕ) (h : Halves) → length (h .waiting) ≤ length (lower y h .waiting)
+unfolding lower
+lower-grows y h = go (eqb (getD (h .degrees) y 0) 1)
+  where
+    go : (t : Bool) → length (h .waiting) ≤ length (cond {A = Halves} t (record { degrees = set (set (h .degrees) y 0) (mate y) 0; waiting = h .waiting ++ (y ∷ []) }) (record { degrees = set (h .degrees) y (getD (h .degrees) y 0 - 1); waiting = h .waiting }) .waiting)
+    go true = omega (arith, length-append (h .waiting) (y ∷ []))
+    go false = le-refl (length (h .waiting))
 
-    -- v is not to go: it is passed over
-    pub once-passed : (T (has (live W n) v) → (0 < insOf W v) × (0 < outsOf W v)) → Once arcs n m selectable W W waiting (waiting - 1) candidates 0
-    once-passed both = record {
-      frame = kept-none actives W;
-      state = record {
-        fixed = s .fixed;
-        counted = s .counted;
-        held = record {
-          waits = λ u t z. others u (λ e. never u t e z) (s .held .waits u t z);
-          low = λ k l. s .held .low k (omega arith);
-          heap = s .held .heap;
-          ready = s .held .ready;
-          sound = s .held .sound;
-          small = s .held .small;
-        };
-        wait-room = omega (arith, s .wait-room);
-        queue-room = s .queue-room;
-      };
-      less = omega arith;
-      step = inl (refl, refl);
-    }
-      where
-        never : (u : ℕ) → T (has (live W n) u) → u ≡ v → (insOf W u ≡ 0) ⊎ (outsOf W u ≡ 0) → ⊥
-        never u t e z =
-            let b = both (subst (λ (k : ℕ). T (has (live W n) k)) e t) in
-            ⊎-elim (λ q. omega (arith, ap (insOf W) e)) (λ q. omega (arith, ap (outsOf W) e)) z
-
-    -- v remains: it may be removed
-    pub once-removable : T (has (live W n) v) → Removable arcs n m selectable W v (waiting - 1) candidates
-    once-removable t = record {
-      fixed = s .fixed;
-      counted = s .counted;
-      inside = t;
-      held = record {
-        waits = λ u k z. others u (λ e. gone v (live W n) (subst (λ (x : ℕ). T (has (without v (live W n)) x)) e k)) (s .held .waits u (without-subset v (live W n) u k) z);
-        low = λ k l. s .held .low k (omega arith);
-        heap = s .held .heap;
-        ready = λ u l k i o. s .held .ready u l (without-subset v (live W n) u k) i o;
-        sound = s .held .sound;
-        small = s .held .small;
-      };
-      wait-room = omega (arith, s .wait-room);
-      queue-room = s .queue-room;
-    }
-
-    pub once-removed : T (has (live W n) v) → (insOf W v ≡ 0) ⊎ (outsOf W v ≡ 0) → (X : List ℕ) (w r : ℕ) → Removed arcs n m selectable W X v (waiting - 1) w r
-        → Once arcs n m selectable W X waiting w r 1
-    once-removed t z X w r d = record {
-      frame = d .frame;
-      state = d .state;
-      less = omega (arith, d .spent);
-      step = inr (refl, (v, t, ⊎-elim (λ e. inl (sym (ins-are v t) ∙ e)) (λ e. inr (sym (outs-are v t) ∙ e)) z, d .is-live));
-    }
+pub lower-all-grows : (ts : List ℕ) (h : Halves) → length (h .waiting) ≤ length (lowerAll ts h .waiting)
+unfolding lowerAll
+lower-all-grows [] h = le-refl (length (h .waiting))
+lower-all-grows (y ∷ ts) h = omega (arith, lower-grows y h, lower-all-grows ts (lower y h))
 
 -- ---- the loop
 
-pub record Peeling (arcs : List Arc) (n m selectable : ℕ) (W X : List ℕ) (waiting candidates removed : ℕ) : Type 0 where
-  pub frame : Kept actives W X
-  pub state : State arcs n m selectable X waiting candidates
-  pub few : removed + size (live X n) ≤ n
-  pub onward : (U : Set) (p : Peels arcs (live X n) U) → (q : Peels arcs (live W n) U) × (taken q ≡ removed + taken p)
+-- what is left to be done is what was to be done
+pub record Peeling (s : Source) (W X : List ℕ) (nodes n from end first last : ℕ) : Type 0 where
+  pub ordered : first ≤ last
+  pub few : last ≤ n
+  pub frame : Steady W X
+  pub roomy : Roomy n (halvesIn X n last)
+  pub same : peelFrom (n - first) (listIn s W nodes) first (halvesIn X n last) ≡ peelFrom (n - from) (listIn s W nodes) from (halvesIn W n end)
 
-size-length : (S : Set) → size S ≤ length S
-unfolding size
-size-length S = howMany-length (λ b. b) S
+peel-one : (k : ℕ) (lists : ℕ → List ℕ) (first : ℕ) (h : Halves) → first < length (h .waiting)
+    → peelFrom (suc k) lists first h ≡ peelFrom k lists (suc first) (lowerAll (lists (getD (h .waiting) first 0)) h)
+unfolding peelFrom
+peel-one k lists first h l = rw (lt-ltb first (length (h .waiting)) l)
 
-pub peeling-start : (arcs : List Arc) (n m selectable : ℕ) (W : List ℕ) (waiting candidates : ℕ) → State arcs n m selectable W waiting candidates
-    → Peeling arcs n m selectable W W waiting candidates 0
-peeling-start arcs n m selectable W waiting candidates s = record {
-  frame = kept-none actives W;
-  state = s;
-  few = omega (arith, size-length (live W n), live-length W n (omega (arith, s .fixed .few-vertices, s .fixed .long)));
-  onward = λ U p. (p, sym (zero-add (taken p)));
-}
+peel-none : (k : ℕ) (lists : ℕ → List ℕ) (first : ℕ) (h : Halves) → length (h .waiting) ≤ first → peelFrom k lists first h ≡ h
+unfolding peelFrom
+peel-none zero lists first h l = refl
+peel-none (suc k) lists first h l = rw (le-ltb first (length (h .waiting)) l)
 
--- the arcs as they stand in the room
-pub state-here : (arcs : List Arc) (n m selectable : ℕ) (X : List ℕ) (waiting candidates : ℕ) → State arcs n m selectable X waiting candidates
-    → State (arcsIn X m) n m selectable X waiting candidates
-state-here arcs n m selectable X waiting candidates s = subst (λ (l : List Arc). State l n m selectable X waiting candidates) (sym (s .fixed .is-arcs)) s
+module _ (s : Source) (W : List ℕ) (nodes n from end : ℕ) (few : n ≤ mostVertices) (long : pickedAt ≤ length W) where
+  pub peeling-start : from ≤ end → end ≤ n → Roomy n (halvesIn W n end) → Peeling s W W nodes n from end from end
+  peeling-start a b r = record { ordered = a; few = b; frame = steady-none W; roomy = r; same = refl }
 
--- a run from an equal set, as long
-moved : (arcs : List Arc) (S Z U : Set) → S ≡ Z → (h : Peels arcs S U) → (g : Peels arcs Z U) × (taken g ≡ taken h)
-moved arcs S Z U e h = subst (λ (Y : Set). (g : Peels arcs Y U) × (taken g ≡ taken h)) e (h, refl)
+  module _ (X : List ℕ) (first last : ℕ) (p : Peeling s W X nodes n from end first last) where
+    waiting-long : length (halvesIn X n last .waiting) ≡ last
+    unfolding halvesIn
+    waiting-long = part-length X waitingAt last (omega (arith, p .few, p .frame .long))
 
--- a run, with one more vertex taken away before it
-longer : (arcs : List Arc) (S Z U : Set) (v : ℕ) → T (has S v) → Loose arcs S v → Z ≡ without v S → (h : Peels arcs Z U) → (g : Peels arcs S U) × (taken g ≡ suc (taken h))
-unfolding taken
-longer arcs S Z U v t l e h = let m = moved arcs Z (without v S) U e h in (peel v t l (m .0), ap suc (m .1))
+    pub waiting-read : first < last → getD (halvesIn X n last .waiting) first 0 ≡ getD X (waitingAt + first) 0
+    unfolding halvesIn
+    waiting-read l = part-at X waitingAt last first l
 
-module _ (arcs : List Arc) (n m selectable : ℕ) (W X : List ℕ) (waiting candidates removed : ℕ) (p : Peeling arcs n m selectable W X waiting candidates removed) where
-  pub peeling-turn : (Y : List ℕ) (w r k : ℕ) → Once (arcsIn X m) n m selectable X Y waiting w r k
-      → Peeling arcs n m selectable W Y w r (removed + k) × (w + inner arcs (live Y n) < waiting + inner arcs (live X n)) × (k ≤ 1)
-  peeling-turn Y w r k here =
-      let o : Once arcs n m selectable X Y waiting w r k = subst (λ (l : List Arc). Once l n m selectable X Y waiting w r k) (p .state .fixed .is-arcs) here in
-      (⊎-elim (λ z. same o (z .0) (z .1)) (λ z. fewer o (z .0) (z .1 .0) (z .1 .1) (z .1 .2) (z .1 .3)) (o .step), o .less, ⊎-elim (λ z. omega arith) (λ z. omega arith) (o .step))
-    where
-      same : Once arcs n m selectable X Y waiting w r k → k ≡ 0 → live Y n ≡ live X n → Peeling arcs n m selectable W Y w r (removed + k)
-      same o e q = record {
-        frame = kept-trans (p .frame) (o .frame);
-        state = o .state;
-        few = omega (arith, p .few, ap size q);
-        onward = λ U h.
-            let g = moved arcs (live Y n) (live X n) U q h in
-            let x = p .onward U (g .0) in
-            (x .0, omega (arith, x .1, g .1));
-      }
+    -- the half that is read is one of n vertices
+    pub next-low : first < last → getD X (waitingAt + first) 0 < 2 * n
+    next-low l =
+        subst (λ (y : ℕ). y < 2 * n) (waiting-read l)
+        (p .roomy .low (getD (halvesIn X n last .waiting) first 0) (in-getD (halvesIn X n last .waiting) first (omega (arith, waiting-long))))
 
-      fewer : Once arcs n m selectable X Y waiting w r k → k ≡ 1 → (v : ℕ) → T (has (live X n) v) → Loose arcs (live X n) v → live Y n ≡ without v (live X n)
-          → Peeling arcs n m selectable W Y w r (removed + k)
-      fewer o e v t l q = record {
-        frame = kept-trans (p .frame) (o .frame);
-        state = o .state;
-        few = omega (arith, p .few, ap size q, size-without v (live X n) t);
-        onward = λ U h.
-            let g = longer arcs (live X n) (live Y n) U v t l q h in
-            let x = p .onward U (g .0) in
-            (x .0, omega (arith, x .1, g .1));
-      }
-
--- the waiting list has run out: what remains is stable
-pub state-stable : (arcs : List Arc) (n m selectable : ℕ) (X : List ℕ) (candidates : ℕ) → State arcs n m selectable X 0 candidates → Stable arcs (live X n)
-unfolding part
-state-stable arcs n m selectable X candidates s v t =
-    (pos (into arcs (live X n) v) (λ e. nowhere (inl (ins-are arcs n m selectable X 0 candidates s v t ∙ e))), pos (out arcs (live X n) v) (λ e. nowhere (inr (outs-are arcs n m selectable X 0 candidates s v t ∙ e))))
-  where
-    nowhere : (insOf X v ≡ 0) ⊎ (outsOf X v ≡ 0) → ⊥
-    nowhere z = List·Memᴰ·not-nil (s .held .waits v t z)
-
-    pos : (k : ℕ) → (k ≡ 0 → ⊥) → 0 < k
-    pos k f = at (decLt 0 k)
+    pub peeling-turn : first < last → Lists s W nodes n → (y : ℕ) → y ≡ getD X (waitingAt + first) 0 → (Y : List ℕ) (r : ℕ)
+        → Went X Y n r (lowerAll (listIn s X nodes y) (halvesIn X n last)) → Peeling s W Y nodes n from end (first + 1) r
+    peeling-turn l lists y e Y r w = record {
+      ordered = omega (arith, waiting-long, ap (λ (k : Halves). length (k .waiting)) is, lower-all-grows (listIn s W nodes y) h, waiting-Y);
+      few = w .few;
+      frame = steady-trans (p .frame) (w .frame);
+      roomy = subst (Roomy n) (sym is) (roomy-all n (listIn s W nodes y) h (lists .low y low) (p .roomy));
+      same = again ∙ p .same;
+    }
       where
-        at : Dec (0 < k) → 0 < k
-        at (yes l) = l
-        at (no l) = absurd (f (omega arith))
+        h : Halves
+        h = halvesIn X n last
 
-pub peeling-done : (arcs : List Arc) (n m selectable : ℕ) (W X : List ℕ) (waiting candidates removed : ℕ) → Peeling arcs n m selectable W X waiting candidates removed → waiting ≡ 0
-    → Peeled arcs n m selectable W X candidates removed
-unfolding taken
-peeling-done arcs n m selectable W X waiting candidates removed p e =
-    let s : State arcs n m selectable X 0 candidates = subst (λ (k : ℕ). State arcs n m selectable X k candidates) e (p .state) in
-    let x = p .onward (live X n) (rest (state-stable arcs n m selectable X candidates s)) in
-    record { frame = p .frame; state = s; run = x .0; is-taken = x .1 ∙ add-zero removed }
+        low : y < 2 * n
+        low = omega (arith, next-low l)
+
+        is : halvesIn Y n r ≡ lowerAll (listIn s W nodes y) h
+        is = w .is ∙ ap (λ (ts : List ℕ). lowerAll ts h) (list-steady s W X nodes y (omega (arith, low)) (p .frame) (omega arith) (lists .room-inside y))
+
+        waiting-Y : length (halvesIn Y n r .waiting) ≡ r
+        waiting-Y = unfold halvesIn in part-length Y waitingAt r (omega (arith, w .few, w .frame .long, p .frame .long))
+
+        k : ℕ
+        k = n - (first + 1)
+
+        more : n - first ≡ suc k
+        more = omega (arith, p .few)
+
+        again : peelFrom (n - (first + 1)) (listIn s W nodes) (first + 1) (halvesIn Y n r) ≡ peelFrom (n - first) (listIn s W nodes) first h
+        again =
+            sym (ap (λ (m : ℕ). peelFrom m (listIn s W nodes) first h) more
+            ∙ peel-one k (listIn s W nodes) first h (omega (arith, waiting-long))
+            ∙ (λ i. peelFrom k (listIn s W nodes) (sym (add-one first) i) (lowerAll (listIn s W nodes ((waiting-read l ∙ sym e) i)) h))
+            ∙ ap (peelFrom k (listIn s W nodes) (first + 1)) (sym is))
+
+    pub peeling-done : last ≤ first → Went W X n last (peelFrom (n - from) (listIn s W nodes) from (halvesIn W n end))
+    peeling-done l = record {
+      few = p .few;
+      is = sym (peel-none (n - first) (listIn s W nodes) first (halvesIn X n last) (omega (arith, waiting-long))) ∙ p .same;
+      frame = p .frame;
+    }

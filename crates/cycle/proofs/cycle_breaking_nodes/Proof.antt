@@ -13,15 +13,20 @@ use Rattle.le.specs.Le.{words}
 use Rattle.form.proofs.Answers.{room-enough}
 use Rattle.form.proofs.Pairless.{room-short, graph-unread, graph-paired, graph-pairless}
 use Rattle.form.proofs.Answers.{gives-refused}
-use Rattle.form.proofs.Stored.{stored-rows, stored-bytes}
-use Rattle.incidence.proofs.Listing.{few-edges}
+use Rattle.form.proofs.Stored.{stored, stored-rows}
+use Rattle.incidence.proofs.Facts.{facts}
+use Rattle.le.proofs.Numbers.{below-each}
 use Rattle.cycle.proofs.Calls.{listing, flagged-count, ids-few, listing-10, listing-0}
 use Rattle.cycle.proofs.cycle_breaking_nodes.Statement.{statement}
 use Rattle.cycle.proofs.cycle_breaking_nodes.Tie as tie
 
 -- the form that was read
 form : (c : tie.After-known-told) → Stored (now (c .before .before .before .before .before .before .before .before .before .before .args .src)) (c .before .graph .given .0 .0)
-form c = stored-bytes (c .before .before .before .read .ensures) (c .before .before .before .before .before .before .before .before .before .shared-slice-known .given) (c .before .graph .given .1)
+form c =
+    let b = now (c .before .before .before .before .before .before .before .before .before .before .args .src) in
+    let r = c .before .before .before .read in
+    let g = c .before .graph .given in
+    stored b (r .result) (r .ensures) (below-each 256 b (λ i l. omega (arith, c .before .before .before .before .before .before .before .before .before .shared-slice-known .given i))) (g .0 .0) (g .1)
 
 -- no refusal was met
 whole : (c : tie.After-enum-told4) → let a = c .before .before .before .before .before .before .before .before .before .before .before .before .before .args in let b = now (a .src) in
@@ -94,7 +99,7 @@ put-chosen-requires c κs =
     let l = long (c .before .before .before .before .before .before .before .before .before) in
     let w = c .before .before .before .before .before .before .before .before .before .before .before .before .before .graph .given .0 .0 .width in
     let n = ap (λ (k : ℕ). k * w) (flagged-count _ _ s (words (f .last .0)) (f .result .ids) (f .result .free) (f .ensures)) in
-    (few-edges _ _ s .0, omega (arith, l, f .kept .0), record { wide = stored-rows s .low .width; inside = omega (arith, n, c .before .before .if1 .left) })
+    (omega (arith, facts s .nodes, facts s .few-nodes), omega (arith, l, f .kept .0), record { wide = stored-rows s .low .width; inside = omega (arith, n, c .before .before .if1 .left) })
 
 returns-5 : tie.Need-returns-5
 returns-5 c =

@@ -1,33 +1,36 @@
 -- `cycle::is_acyclic` meets its contract.
 -- Assumes nothing.
-use borrow.Author.Needs.{needs}
+use mathlib.Core.Path.{_≡_}
+use Prim.Native.Nat.{_+_, _-_}
+use native.Mathlib.Omega.{arith}
 use Rattle.le.specs.Le.{words}
+use Rattle.le.proofs.Places.{length-words}
+use Rattle.form.specs.Form.{bodyOf}
+use Rattle.form.specs.Stored.{graphOf}
+use Rattle.choice.specs.Drawing.{vertexCount}
+use Rattle.removal.specs.Room.{source}
+use Rattle.incidence.proofs.Facts.{facts}
 use Rattle.cycle.proofs.Begin.{no-loop-is}
+use borrow.Author.Needs.{needs}
 use Rattle.cycle.proofs.is_acyclic.Statement.{statement}
 use Rattle.cycle.proofs.is_acyclic.Tie as tie
 
-start-requires : tie.Need-start-requires
-start-requires c κs = search needs
-
 add-result : tie.Need-add-result
-add-result c = search needs
-
-peel-requires : tie.Need-peel-requires
-peel-requires c κs = search needs
-
-add-result-2 : tie.Need-add-result-2
-add-result-2 c = search needs
-
-same-length : tie.Need-same-length
-same-length c = search needs
+add-result c = let f = facts (c .before .before .before .before .before .before .before .pre .1) in omega (arith, f .nodes, f .edges, f .few)
 
 returns : tie.Need-returns
 returns c =
-    let s = c .before .before .before .before .before .before .before .before .before .start in
-    let p = c .before .before .before .before .peel in
-    no-loop-is _ _ (c .before .before .before .before .before .before .before .before .before .before .before .before .before .pre .1) (words (s .last .0)) (words (p .last .0)) (s .result .ports) 0 (s .result .waiting) (s .result .candidates) (p .result .candidates) (p .result .removed)
-    (s .ensures) (p .ensures)
+    let s = c .before .before .before .before .before .before .before in
+    let a = s .args in
+    let f = facts (s .pre .1) in
+    let n-is : a .z .nodes + a .z .edges ≡ vertexCount (graphOf (a .src .now)) = λ i. f .nodes i + f .edges i in
+    let proper = s .pre .1 .formed .proper in
+    let n = a .z .nodes + a .z .edges in
+    let q = source (a .src .now) (bodyOf (a .z)) in
+    let g = graphOf (a .src .now) in
+    let fewn = f .few-nodes in
+    let o = c .before .before .before .first-removal in
+    no-loop-is q g proper (a .z .nodes) n (f .nodes) n-is (omega (arith, f .nodes, f .few-nodes)) (omega (arith, f .few, f .nodes, f .edges)) (f .few-ports) (words (o .last .0)) (omega (arith, length-words (o .last .0), o .kept .0)) (o .result) (o .ensures)
 
 pub is-acyclic-spec : {M : Type 1} → statement M
-is-acyclic-spec =
-    tie.close (tie.spec start-requires add-result peel-requires add-result-2 same-length returns)
+is-acyclic-spec = tie.close (tie.spec (λ c κs. search needs) add-result (λ c. search needs) returns)

@@ -2,6 +2,7 @@
 -- Assumes nothing.
 use mathlib.Core.Bool.{Bool, cond}
 use mathlib.Core.Path.{_≡_, sym, ap, _∙_}
+use native.Mathlib.Omega.{arith}
 use lib.ListN.{length}
 use denote.Ref.{now}
 use borrow.Author.Needs.{needs}
@@ -13,7 +14,8 @@ use Rattle.form.specs.declared.Outcome.the-variants.{Done}
 use Rattle.graph.specs.Answer.{Answer, Result, answered, saying}
 use Rattle.graph.specs.Graph.{Graph}
 use Rattle.graph.specs.Versions as versions
-use Rattle.form.proofs.Stored.{stored-bytes}
+use Rattle.form.proofs.Stored.{stored}
+use Rattle.le.proofs.Numbers.{below-each}
 use Rattle.form.proofs.Answers.{room-enough}
 use Rattle.form.proofs.Pairless.{room-short, graph-unread, graph-paired, graph-pairless}
 use Rattle.cycle.proofs.no_loop.Statement.{statement}
@@ -25,7 +27,11 @@ next s g = answered (saying (noLoop g))
 
 -- the form that was read
 form : (c : tie.After-known-told) → Stored (now (c .before .before .before .before .before .before .before .before .before .args .src)) (c .before .graph .given .0 .0)
-form c = stored-bytes (c .before .before .before .read .ensures) (c .before .before .before .before .before .before .before .before .shared-slice-known .given) (c .before .graph .given .1)
+form c =
+    let b = now (c .before .before .before .before .before .before .before .before .before .args .src) in
+    let r = c .before .before .before .read in
+    let g = c .before .graph .given in
+    stored b (r .result) (r .ensures) (below-each 256 b (λ i l. omega (arith, c .before .before .before .before .before .before .before .before .shared-slice-known .given i))) (g .0 .0) (g .1)
 
 -- what was found
 decided : (c : tie.After-is-acyclic) → let a = c .before .before .before .before .before .before .before .before .before .before .before .before .before .before .args in outcome (noLoopCall (now (a .src)) (length (now (a .room)))) ≡ Done (cond (c .is-acyclic .result) 1 0) 0

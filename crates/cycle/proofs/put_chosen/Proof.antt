@@ -3,10 +3,9 @@
 use mathlib.Core.Path.{_≡_, refl, sym, ap, _∙_}
 use Prim.Native.Nat.{_≤_, _-_}
 use native.Mathlib.Nat.{le-antisymm}
-use borrow.Author.Needs.{needs}
 use native.Mathlib.Omega.{arith}
 use lib.ListN.{length-append, length}
-use Rattle.cycle.specs.Choosing.{shown, flaggedBelow}
+use Rattle.cycle.specs.Begin.{shown, flaggedBelow}
 use Rattle.le.specs.Le.{words}
 use Rattle.le.specs.Rows.{puts}
 use Rattle.le.proofs.Rows.{holds-less, holds-same, puts-none}
@@ -56,8 +55,8 @@ put-chosen-spec =
     μ-loop
     loop-holds
     put-flagged-requires
-    (λ c. search needs)
-    (λ c. search needs)
+    (λ c. omega arith)
+    (λ c. omega arith)
     loop-again
     same-length
     returns)

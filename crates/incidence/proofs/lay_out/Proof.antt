@@ -1,57 +1,79 @@
 -- `incidence::lay_out` meets its contract.
 -- Assumes nothing.
-use mathlib.Core.Path.{_≡_, refl, _∙_}
-use Prim.Native.Nat.{_≤_, _+_, _-_}
-use native.Mathlib.Nat.{le-antisymm}
-use borrow.Author.Needs.{needs}
+use mathlib.Core.List.{List}
+use mathlib.Core.Path.{_≡_, refl, sym, ap, _∙_, subst}
+use Prim.Native.Nat.{ℕ, _+_, _-_, _*_, _≤_}
 use native.Mathlib.Omega.{arith}
-use lib.ListN.{length}
+use lib.ListN.{length, getD, set}
 use Rattle.le.specs.Le.{words}
 use Rattle.le.proofs.Places.{length-words}
-use Rattle.incidence.proofs.Building.{Laying, laying-start, laying-read, laying-small, laying-turn, laying-done}
+use Rattle.halves.specs.Halves.{mate, sumTo}
+use Rattle.halves.proofs.Sums.{sum-apart}
+use Rattle.tables.specs.Tables.{mostPorts, listsAt}
+use Rattle.incidence.specs.Incidence.{LaidOut}
+use Rattle.incidence.proofs.Laying.{laid-start, laid-turn, degree-read, sum-next}
 use Rattle.incidence.proofs.lay_out.Statement.{statement}
 use Rattle.incidence.proofs.lay_out.Tie as tie
 
 abbrev Inv-loop : tie.InvT-loop
-Inv-loop room₀ degree lists n sum₀ v₀ room sum v = (v ≤ n) × Laying (words room₀) (words room) degree lists n v sum × (length room ≡ length room₀)
+Inv-loop room₀ n sum₀ y₀ room sum y = (y ≤ n) × LaidOut (words room₀) (words room) y × (sum ≡ sumTo (λ u. getD (words room₀) (mate u) 0) y) × (length room ≡ length room₀)
 
 abbrev μ-loop : tie.MeasureT-loop
-μ-loop room₀ degree lists n sum₀ v₀ room sum v = n - v
+μ-loop room₀ n sum₀ y₀ room sum y = n - y
+
+-- the sum so far, and with the next list
+few : (c : tie.In-loop Inv-loop μ-loop) → let a = c .before .before .before .args in let l = c .before .loop in
+    l .sum + getD (words (a .room .now)) (mate (l .y)) 0 ≤ mostPorts
+few c =
+    let a = c .before .before .before .args in
+    let l = c .before .loop in
+    omega (arith, l .inv .2, sum-apart (λ u. getD (words (a .room .now)) (mate u) 0) (l .y) (a .n) (omega arith))
+
+-- the words after both writes
+both : (c : tie.After-set-word2 Inv-loop μ-loop) → let l = c .before .before .before .before .before .before .before .loop in
+    words (c .set-word2 .last .0) ≡ set (set (words (l .room)) (listsAt + 2 * l .y) (l .sum)) (listsAt + 2 * l .y + 1) 0
+both c = let l = c .before .before .before .before .before .before .before .loop in
+    c .set-word2 .ensures ∙ ap (λ (W : List ℕ). set W (listsAt + 2 * l .y + 1) 0) (c .before .before .before .before .set-word .ensures)
+
+size : (c : tie.After-word Inv-loop μ-loop) → let a = c .before .before .before .before .before .before .before .before .before .before .before .before .before .args in
+    let l = c .before .before .before .before .before .before .before .before .before .before .before .loop in c .word .result ≡ getD (words (a .room .now)) (mate (l .y)) 0
+size c =
+    let a = c .before .before .before .before .before .before .before .before .before .before .before .before .before .args in
+    let l = c .before .before .before .before .before .before .before .before .before .before .before .loop in
+    c .word .ensures ∙ ap (λ (W : List ℕ). getD W (mate (l .y)) 0) (both (c .before .before .before .before))
+    ∙ degree-read (words (a .room .now)) (words (l .room)) (l .y) (l .sum) (l .inv .1) (l .inv .2) (omega arith) (omega (arith, length-words (a .room .now)))
 
 loop-holds : tie.Need-loop-holds Inv-loop μ-loop
-loop-holds c = (omega arith, laying-start _ _ _ _, refl)
+unfolding sumTo
+loop-holds c = let a = c .before .args in (omega arith, laid-start (words (a .room .now)), refl, refl)
+
+cast-set-word : tie.Need-cast-set-word Inv-loop μ-loop
+cast-set-word c = omega (arith, few (c .before))
 
 add-sum : tie.Need-add-sum Inv-loop μ-loop
-add-sum c = let a = c .before .before .before .before .before .before .before .before .before .before .before .before .before .args in
-    let l = c .before .before .before .before .before .before .before .before .before .before .before .loop in
-    let W = words (a .room .now) in
-    let X = words (l .room) in
-    let long : a .degree + a .n ≤ length W = omega (arith, length-words (a .room .now)) in
-    omega (
-      arith,
-      laying-small W X (a .degree) (a .lists) (a .n) (l .v) (l .sum) (l .inv .1) (omega arith) (omega arith) (omega arith) long (c .before .before .before .before .before .before .before .before .before .before .before .before .before .pre .1),
-      c .before .before .before .before .before .before .before .before .word .ensures,
-      laying-read W X (a .degree) (a .lists) (a .n) (l .v) (l .sum) (l .inv .1) (omega arith) (omega arith) (omega arith) long,
-      c .before .before .before .before .before .before .before .before .before .before .before .before .before .pre .1 (l .v) (omega arith),
-    )
+add-sum c = omega (arith, size c, few (c .before .before .before .before .before .before .before .before .before .before))
 
 loop-again : tie.Need-loop-again Inv-loop μ-loop
-loop-again c = let a = c .before .before .before .before .before .before .before .before .before .before .before .before .before .args in
+loop-again c =
+    let a = c .before .before .before .before .before .before .before .before .before .before .before .before .before .args in
     let l = c .before .before .before .before .before .before .before .before .before .before .before .loop in
     let W = words (a .room .now) in (
       omega arith,
-      laying-turn W (words (l .room)) (a .degree) (a .lists) (a .n) (l .v) (l .sum) (l .inv .1) (omega arith) (omega arith) (omega arith) (omega (arith, length-words (a .room .now)))
-          (words (c .before .before .before .before .before .before .set-word .last .0)) (words (c .before .before .set-word2 .last .0)) (c .before .before .before .before .before .before .before .before .word .result) (c .before .before .before .before .before .before .before .before .word .ensures) (c .before .before .before .before .before .before .set-word .ensures) (c .before .before .set-word2 .ensures),
-      c .before .before .set-word2 .kept .0 ∙ c .before .before .before .before .before .before .set-word .kept .0 ∙ l .inv .2,
+      subst (λ (X : List ℕ). LaidOut W X (l .y + 1)) (sym (both (c .before .before .before .before)))
+          (laid-turn W (words (l .room)) (l .y) (l .sum) (l .inv .1) (l .inv .2) (omega arith) (omega (arith, length-words (a .room .now)))),
+      sum-next W (l .sum) (l .y) (c .word .result) (l .inv .2) (size c),
+      c .before .before .before .before .set-word2 .kept .0 ∙ c .before .before .before .before .before .before .before .before .set-word .kept .0 ∙ l .inv .3,
     )
 
 same-length : tie.Need-same-length Inv-loop μ-loop
-same-length c = c .before .loop .inv .2
+same-length c = c .before .loop .inv .3
 
 returns : tie.Need-returns Inv-loop μ-loop
-returns c = let a = c .before .before .before .args in
+returns c =
+    let a = c .before .before .before .args in
     let l = c .before .loop in
-    laying-done (words (a .room .now)) (words (l .room)) (a .degree) (a .lists) (a .n) (l .v) (l .sum) (l .inv .1) (le-antisymm (l .inv .0) (c .loop-test .left))
+    let e : l .y ≡ a .n = omega arith in
+    subst (LaidOut (words (a .room .now)) (words (l .room))) e (l .inv .1)
 
 pub lay-out-spec : {M : Type 1} → statement M
 lay-out-spec =
@@ -60,16 +82,22 @@ lay-out-spec =
     Inv-loop
     μ-loop
     loop-holds
-    (λ c. search needs)
-    (λ c κs. search needs)
-    (λ c. search needs)
-    (λ c κs. search needs)
-    (λ c. search needs)
-    (λ c. search needs)
-    (λ c κs. search needs)
+    (λ c. omega arith)
+    (λ c. omega arith)
+    cast-set-word
+    (λ c κs. omega arith)
+    (λ c. omega arith)
+    (λ c. omega arith)
+    (λ c. omega arith)
+    (λ c κs. omega arith)
+    (λ c. omega arith)
+    (λ c. omega arith)
+    (λ c. omega arith)
+    (λ c κs. omega arith)
+    (λ c. omega arith)
     add-sum
-    (λ c. search needs)
-    (λ c. search needs)
+    (λ c. omega arith)
+    (λ c. omega arith)
     loop-again
     same-length
     returns)

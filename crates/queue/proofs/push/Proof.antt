@@ -1,28 +1,26 @@
 -- `queue::push` meets its contract.
 -- Assumes nothing.
+use mathlib.Core.List.{List}
+use mathlib.Core.Path.{sym, subst}
+use Prim.Native.Nat.{ℕ, _+_, _*_, _≤_}
 use native.Mathlib.Omega.{arith}
-use borrow.Author.Needs.{needs}
+use lib.ListN.{length}
+use Rattle.le.specs.Le.{words}
 use Rattle.le.proofs.Places.{length-words}
-use Rattle.queue.proofs.Entries.{put-placed}
-use Rattle.queue.proofs.Up.{pushed}
+use Rattle.queue.specs.Places.{Added}
+use Rattle.queue.proofs.Stored.{rises-put}
+use borrow.Author.Needs.{needs}
 use Rattle.queue.proofs.push.Statement.{statement}
 use Rattle.queue.proofs.push.Tie as tie
 
-sift-up-requires : tie.Need-sift-up-requires
-sift-up-requires c κs = search needs
-
-put-candidate-requires : tie.Need-put-candidate-requires
-put-candidate-requires c κs = search needs
-
-same-length : tie.Need-same-length
-same-length c = search needs
-
 returns : tie.Need-returns
-returns c = let w = c .before .before in
-    let s = w .before .before .before .before in
-    let a = s .before .before .before .args in
-    pushed (s .sift-up .ensures)
-    (put-placed (a .base) (s .sift-up .result) (a .c) (omega (arith, length-words (s .sift-up .last .0), s .sift-up .ensures .rising .inside)) (w .put-candidate .ensures))
+returns c =
+    let a = c .before .before .before .before .before .before .before .before .before .args in
+    let o = c .before .before .before .before .before .before .sift-up in
+    let w = c .before .before .put-key in
+    let W = words (a .room .now) in
+    let fits : a .base + 2 * (a .n + 1) ≤ length W = omega (arith, length-words (a .room .now)) in
+    subst (λ (X : List ℕ). Added W X (a .base) (a .n) (a .k)) (sym (w .ensures)) (rises-put W (a .base) (a .n) (a .k) fits (words (o .last .0)) (o .result) (o .ensures))
 
 pub push-spec : {M : Type 1} → statement M
-push-spec = tie.close (tie.spec sift-up-requires put-candidate-requires same-length returns)
+push-spec = tie.close (tie.spec (λ c κs. search needs) (λ c κs. search needs) (λ c. search needs) returns)

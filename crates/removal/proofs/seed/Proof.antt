@@ -1,62 +1,68 @@
 -- `removal::seed` meets its contract.
 -- Assumes nothing.
-use mathlib.Core.Path.{_≡_, refl, sym, _∙_, subst}
-use Prim.Native.Nat.{ℕ, _≤_, _-_}
-use native.Mathlib.Nat.{le-antisymm}
-use borrow.Author.Needs.{needs}
+use mathlib.Core.List.{List}
+use mathlib.Core.Path.{_≡_, sym, ap, _∙_, subst}
+use Prim.Native.Nat.{ℕ, _+_, _*_}
 use native.Mathlib.Omega.{arith}
-use lib.ListN.{length}
+use lib.ListN.{set}
 use Rattle.le.specs.Le.{words}
-use Rattle.removal.specs.Engine.{Room}
 use Rattle.le.proofs.Places.{length-words}
-use Rattle.removal.proofs.Work.{Seeding, seeding-start, seeding-turn, seeding-done}
+use Rattle.halves.specs.Halves.{seed}
+use Rattle.tables.specs.Tables.{waitingAt}
+use Rattle.removal.specs.Room.{halvesIn, Went}
+use Rattle.removal.proofs.Seeding.{seed-in, seed-out, seed-none}
+use borrow.Author.Needs.{needs}
 use Rattle.removal.proofs.seed.Statement.{statement}
 use Rattle.removal.proofs.seed.Tie as tie
 
-abbrev Inv-loop : tie.InvT-loop
-Inv-loop room₀ n selectable waiting₀ candidates₀ v₀ room waiting candidates v = (v ≤ n) × Seeding (words room₀) (words room) n selectable v waiting candidates × (length room ≡ length room₀)
+returns : tie.Need-returns
+returns c =
+    let a = c .before .before .before .before .before .before .before .before .before .before .before .before .args in
+    let W = words (a .room .now) in
+    let is : words (c .before .before .set-word2 .last .0) ≡ set (set W (2 * a .x + 1) 0) (waitingAt + a .end) (2 * a .x) = c .before .before .set-word2 .ensures ∙ ap (λ (X : List ℕ). set X (waitingAt + a .end) (2 * a .x)) (c .before .before .before .before .before .before .set-word .ensures) in
+    (subst (λ (X : List ℕ). Went W X (a .n) (a .end + 1) (seed (a .x) (halvesIn W (a .n) (a .end)))) (sym is) (seed-in W (a .n) (a .end) (a .x) (omega arith) (omega arith) (omega arith) (omega (arith, length-words (a .room .now))) (sym (c .before .before .before .before .before .before .before .before .before .word .ensures) ∙ c .before .before .before .before .before .before .before .before .if1 .taken)), omega arith)
 
-abbrev μ-loop : tie.MeasureT-loop
-μ-loop room₀ n selectable waiting₀ candidates₀ v₀ room waiting candidates v = n - v
+returns-2 : tie.Need-returns-2
+returns-2 c =
+    let a = c .before .before .before .before .before .before .before .before .before .before .before .before .before .before .before .args in
+    let W = words (a .room .now) in
+    let is : words (c .before .before .set-word4 .last .0) ≡ set (set W (2 * a .x) 0) (waitingAt + a .end) (2 * a .x + 1) = c .before .before .set-word4 .ensures ∙ ap (λ (X : List ℕ). set X (waitingAt + a .end) (2 * a .x + 1)) (c .before .before .before .before .before .before .set-word3 .ensures) in
+    (subst (λ (X : List ℕ). Went W X (a .n) (a .end + 1) (seed (a .x) (halvesIn W (a .n) (a .end)))) (sym is) (seed-out W (a .n) (a .end) (a .x) (omega arith) (omega arith) (omega arith) (omega (arith, length-words (a .room .now))) (λ e. c .before .before .before .before .before .before .before .before .before .before .before .if1 .left (c .before .before .before .before .before .before .before .before .before .before .before .before .word .ensures ∙ e)) (sym (c .before .before .before .before .before .before .before .before .before .word2 .ensures) ∙ c .before .before .before .before .before .before .before .before .if2 .taken)), omega arith)
 
-loop-holds : tie.Need-loop-holds Inv-loop μ-loop
-loop-holds c = (omega arith, seeding-start (words (c .before .args .room .now)) (c .before .args .n) (c .before .args .selectable) (c .before .pre .1), refl)
-
-offer-requires : tie.Need-offer-requires Inv-loop μ-loop
-offer-requires c κs = let a = c .before .before .before .before .args in
-    let l = c .before .before .loop in
-    let s = l .inv .1 in
-    let small = s .held .small (l .v) (omega arith) in
-    ((omega arith, omega (arith, s .few-waiting), omega (arith, s .few-candidates), subst (λ (k : ℕ). Room k (a .selectable)) (sym (l .inv .2)) (c .before .before .before .before .pre .0 .2)), (small, s .held .heap))
-
-loop-again : tie.Need-loop-again Inv-loop μ-loop
-loop-again c = let a = c .before .before .before .before .before .before .before .args in
-    let l = c .before .before .before .before .before .loop in
-    let o = c .before .before .offer in (
-      omega arith,
-      seeding-turn (words (a .room .now)) (words (l .room)) (words (o .last .0)) (a .n) (a .selectable) (l .v) (l .waiting) (l .candidates) (o .result .waiting) (o .result .candidates) (l .inv .1)
-          (omega arith) (omega arith) (omega (arith, c .before .before .before .before .before .before .before .pre .0 .2 .tables, length-words (a .room .now))) (o .ensures),
-      o .kept .0 ∙ l .inv .2,
-    )
-
-same-length : tie.Need-same-length Inv-loop μ-loop
-same-length c = c .before .loop .inv .2
-
-returns : tie.Need-returns Inv-loop μ-loop
-returns c = let a = c .before .before .before .args in
-    let l = c .before .loop in
-    seeding-done (words (a .room .now)) (words (l .room)) (a .n) (a .selectable) (l .v) (l .waiting) (l .candidates) (l .inv .1) (le-antisymm (l .inv .0) (c .loop-test .left))
+returns-3 : tie.Need-returns-3
+returns-3 c =
+    let a = c .before .before .before .before .before .before .before .args in
+    let W = words (a .room .now) in
+    (seed-none W (a .n) (a .end) (a .x) (omega arith) (omega arith) (omega arith) (omega (arith, length-words (a .room .now))) (λ e. c .before .before .before .if1 .left (c .before .before .before .before .word .ensures ∙ e)) (λ e. c .if2 .left (c .before .word2 .ensures ∙ e)), omega arith)
 
 pub seed-spec : {M : Type 1} → statement M
 seed-spec =
     tie.close
     (tie.spec
-    Inv-loop
-    μ-loop
-    loop-holds
-    offer-requires
+    (λ c. search needs)
+    (λ c κs. search needs)
     (λ c. search needs)
     (λ c. search needs)
-    loop-again
-    same-length
-    returns)
+    (λ c κs. search needs)
+    (λ c. search needs)
+    (λ c. search needs)
+    (λ c. search needs)
+    (λ c κs. search needs)
+    (λ c. search needs)
+    (λ c. search needs)
+    returns
+    (λ c. search needs)
+    (λ c. search needs)
+    (λ c κs. search needs)
+    (λ c. search needs)
+    (λ c κs. search needs)
+    (λ c. search needs)
+    (λ c. search needs)
+    (λ c. search needs)
+    (λ c. search needs)
+    (λ c κs. search needs)
+    (λ c. search needs)
+    (λ c. search needs)
+    returns-2
+    (λ c. search needs)
+    returns-3)

@@ -1,0 +1,9 @@
+pub mod Sides
+pub mod Lists
+pub mod Sums
+pub mod Marks
+pub mod Lowering
+pub mod Leaving
+pub mod Start
+pub mod Whole
+pub mod Less

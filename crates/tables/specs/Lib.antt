@@ -1,0 +1,2 @@
+-- Where the engine's tables lie.
+pub mod Tables
