@@ -1,2 +1,3 @@
-pub mod Fed
+pub mod Marked
 pub mod Edges
+pub mod Whole

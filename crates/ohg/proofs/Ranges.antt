@@ -9,7 +9,7 @@ use lib.ListN.{length}
 use Rattle.graph.specs.Answer.{Answer, answered, Result, writing, saying}
 use Rattle.graph.specs.Calls.{Next, known, labelList, idList, unpaired, onNothing, onGraph, inWorkRoom, rewriteStep, emptyStep, discreteStep, identityStep, singletonStep, newNodeStep, newEdgeStep, newOperationStep, unifyStep, addEdgeSourceStep, addEdgeTargetStep, deleteEdgesStep, spiderizeStep, spiderizeAllStep, readCall, rewriteCall, emptyCall, discreteCall, identityCall, singletonCall, newNodeCall, newEdgeCall, newOperationCall, unifyCall, addEdgeSourceCall, addEdgeTargetCall, deleteEdgesCall, deleteNodesCall, spiderizeCall, spiderizeNodesCall, onceFedCall}
 use Rattle.graph.specs.Graph.{Graph, Format, Proper, WellFormed, largest}
-use Rattle.graph.specs.Checks.{onceFed}
+use Rattle.graph.specs.Checks.{monogamous}
 use Rattle.choice.specs.Drawing.{noLoop}
 use Rattle.le.specs.Le.{Below}
 use Rattle.choice.specs.Calls.{cycleBreakingNodesCall, noLoopCall}
@@ -180,7 +180,7 @@ no-loop-ranged b t workRoom = record {
 pub once-fed-ranged : (b : List ℕ) (workRoom : ℕ) → Ranged (onceFedCall b workRoom)
 once-fed-ranged b workRoom = record {
   no = λ r e. refused-by (once-fed-listed b workRoom) e;
-  numbers = λ m e. let h = once-fed-answer b workRoom m e in says (onceFed (h .0 .graph)) (h .2);
+  numbers = λ m e. let h = once-fed-answer b workRoom m e in says (monogamous (h .0 .graph)) (h .2);
 }
 
 -- ---- calls without a graph

@@ -12,7 +12,7 @@ use Rattle.form.specs.declared.Outcome.the-variants.{Done}
 use Rattle.form.specs.declared.Sizes.{Sizes}
 use Rattle.graph.specs.Answer.{Answer, Result, answered, saying}
 use Rattle.graph.specs.Calls.{roomOnceFed, fedOnce, onceFedCall}
-use Rattle.graph.specs.Checks.{onceFed}
+use Rattle.graph.specs.Checks.{monogamous}
 use Rattle.graph.specs.Graph.{Graph}
 use Rattle.graph.specs.Versions as versions
 use Rattle.form.proofs.Stored.{stored-bytes}
@@ -23,21 +23,21 @@ use Rattle.checks.proofs.once_fed.Tie as tie
 
 -- the answer
 abbrev next : versions.StoredGraph → Graph → Answer Result
-next s g = answered (saying (onceFed g))
+next s g = answered (saying (monogamous g))
 
 -- the form that was read
 form : (c : tie.After-known-told) → Stored (now (c .before .before .before .before .before .before .before .before .before .args .src)) (c .before .graph .given .0 .0)
 form c = stored-bytes (c .before .before .before .read .ensures) (c .before .before .before .before .before .before .before .before .shared-slice-known .given) (c .before .graph .given .1)
 
 -- what was found
-decided : (c : tie.After-feed-edges) → let a = c .before .before .before .before .before .before .before .before .before .before .before .before .before .before .args in outcome (onceFedCall (now (a .src)) (length (now (a .room)))) ≡ Done (cond (c .feed-edges .result) 1 0) 0
+decided : (c : tie.After-each-once) → let a = c .before .before .before .before .before .before .before .before .before .before .before .before .before .before .args in outcome (onceFedCall (now (a .src)) (length (now (a .room)))) ≡ Done (cond (c .each-once .result) 1 0) 0
 unfolding fedOnce
 decided c =
     let w = c .before .before .before .before .before .before .before .before .before .before .before .work-room in
     let p = c .before .before .before .before .unpaired in
     ap outcome (graph-pairless (now (c .before .before .before .before .before .before .before .before .before .before .before .before .before .before .args .src)) roomOnceFed _ next (w .result) (w .ensures) _ (c .before .before .before .before .before .before .before .before .before .enum-told .given .1) (form (c .before .before .before .before .before))
     (p .result) (p .ensures) _ (c .before .before .enum-told4 .given .1))
-    ∙ ap (λ (yes : Bool). Done (cond yes 1 0) 0) (sym (c .feed-edges .ensures))
+    ∙ ap (λ (yes : Bool). Done (cond yes 1 0) 0) (sym (c .each-once .ensures))
 
 returns : tie.Need-returns
 unfolding fedOnce
@@ -64,8 +64,8 @@ returns-3 c =
     sym (ap outcome (graph-paired (now (c .before .before .before .before .before .before .before .before .before .before .before .before .before .args .src)) roomOnceFed _ next (w .result) (w .ensures) _ (c .before .before .before .before .before .before .before .before .enum-told .given .1) (form (c .before .before .before .before))
     (p .result) (p .ensures) _ (c .before .enum-told5 .given .1) (r .result) (r .ensures)))
 
-feed-edges-requires : tie.Need-feed-edges-requires
-feed-edges-requires c κs =
+each-once-requires : tie.Need-each-once-requires
+each-once-requires c κs =
     let a = c .before .before .before .before .before .before .before .before .before .before .before .before .before .args in
     let w = c .before .before .before .before .before .before .before .before .before .before .work-room in
     let s = form (c .before .before .before .before) in
@@ -97,7 +97,7 @@ once-fed-spec =
     (λ c. search needs)
     (λ c κs. search needs)
     returns-3
-    feed-edges-requires
+    each-once-requires
     (λ c. search needs)
     returns-4
     (λ c. search needs)

@@ -1,4 +1,4 @@
--- `checks::feed` meets its contract.
+-- `checks::mark` meets its contract.
 -- Assumes nothing.
 use mathlib.Core.Logic.{⊎-elim}
 use mathlib.Core.Path.{_≡_, refl, subst}
@@ -7,8 +7,11 @@ use native.Mathlib.Omega.{arith}
 use lib.ListN.{getD}
 use borrow.Author.Needs.{needs}
 use borrow.Author.Tests.{eq-eqb, ne-eqb}
-use Rattle.checks.proofs.feed.Statement.{statement}
-use Rattle.checks.proofs.feed.Tie as tie
+use Rattle.checks.proofs.mark.Statement.{statement}
+use Rattle.checks.proofs.mark.Tie as tie
+
+slice-read-marks : tie.Need-slice-read-marks
+slice-read-marks c = search needs
 
 div-if1 : tie.Need-div-if1
 div-if1 c = ⊎-elim (λ (e : c .before .args .way ≡ 1). omega arith) (λ (e : c .before .args .way ≡ 2). omega arith) (c .before .pre .1)
@@ -29,10 +32,16 @@ add-room c =
     omega arith)
     (c .before .before .pre .1)
 
+slice-write-room : tie.Need-slice-write-room
+slice-write-room c = search needs
+
+same-length : tie.Need-same-length
+same-length c = search needs
+
 returns-2 : tie.Need-returns-2
 returns-2 c = (rw (ne-eqb _ _ (c .if1 .left)), refl)
 
-pub feed-spec : {M : Type 1} → statement M
-feed-spec =
+pub mark-spec : {M : Type 1} → statement M
+mark-spec =
     tie.close
-    (tie.spec (λ c. search needs) div-if1 returns add-room (λ c. search needs) (λ c. search needs) returns-2)
+    (tie.spec slice-read-marks div-if1 returns add-room slice-write-room same-length returns-2)

@@ -1,4 +1,4 @@
--- `checks::feed_list` meets its contract.
+-- `checks::mark_list` meets its contract.
 -- Assumes nothing.
 use mathlib.Core.Bool.{true}
 use mathlib.Core.Path.{_≡_, refl, _∙_}
@@ -9,16 +9,16 @@ use native.Mathlib.Omega.{arith}
 use lib.ListN.{length}
 use denote.Ref.{now}
 use borrow.Author.Tests.{not-true, not-false}
-use Rattle.checks.specs.Fed.{Feeds}
+use Rattle.checks.specs.Marked.{Marks}
 use Rattle.le.specs.Rows.{span}
 use Rattle.le.proofs.Numbers.{below-at}
 use Rattle.le.proofs.Rows.{holds-less, holds-index, length-span, span-at}
-use Rattle.checks.proofs.Fed.{list-start, list-turn, list-stop}
-use Rattle.checks.proofs.feed_list.Statement.{statement}
-use Rattle.checks.proofs.feed_list.Tie as tie
+use Rattle.checks.proofs.Marked.{list-start, list-turn, list-stop}
+use Rattle.checks.proofs.mark_list.Statement.{statement}
+use Rattle.checks.proofs.mark_list.Tie as tie
 
 abbrev Inv-loop : tie.InvT-loop
-Inv-loop src r k n nodes room₀ way i₀ room i = (i ≤ n) × (length room ≡ length room₀) × Feeds room₀ room nodes true way (span src r k i)
+Inv-loop src r k n nodes room₀ way i₀ room i = (i ≤ n) × (length room ≡ length room₀) × Marks room₀ room nodes true way (span src r k i)
 
 abbrev μ-loop : tie.MeasureT-loop
 μ-loop src r k n nodes room₀ way i₀ room i = n - i
@@ -45,17 +45,17 @@ add-number c = omega (arith, holds-index (c .before .before .before .before .pre
 number-requires : tie.Need-number-requires Inv-loop μ-loop
 number-requires c κs = holds-less (c .before .before .before .before .pre .0) _ (omega arith)
 
-feed-requires : tie.Need-feed-requires Inv-loop μ-loop
-feed-requires c κs = (omega (arith, known (c .before)), c .before .before .before .before .before .before .pre .3)
+mark-requires : tie.Need-mark-requires Inv-loop μ-loop
+mark-requires c κs = (omega (arith, known (c .before)), c .before .before .before .before .before .before .pre .3)
 
 same-length : tie.Need-same-length Inv-loop μ-loop
-same-length c = c .before .before .before .feed .kept .0 ∙ c .before .before .before .before .before .before .before .loop .inv .1
+same-length c = c .before .before .before .mark .kept .0 ∙ c .before .before .before .before .before .before .before .loop .inv .1
 
 returns : tie.Need-returns Inv-loop μ-loop
 returns c =
     let a = c .before .before .before .before .before .before .before .before .before .before .args in
     let l = c .before .before .before .before .before .before .before .loop in
-    let f = c .before .before .before .feed in
+    let f = c .before .before .before .mark in
     let x = c .before .before .before .before .before .number in
     list-stop (now (a .room)) (a .nodes) (a .way) (now (a .src)) (a .r) (a .k) (a .n) (l .i) (omega arith) (l .room) (l .inv .2) (x .result) (x .ensures .0) (known (c .before .before .before .before .before)) (omega arith)
     (c .before .before .before .before .before .before .before .before .before .before .pre .3) (f .result) (f .ensures .0) (f .last .0) (f .ensures .1) (not-true _ (c .if1 .taken))
@@ -64,7 +64,7 @@ loop-again : tie.Need-loop-again Inv-loop μ-loop
 loop-again c =
     let a = c .before .before .before .before .before .before .before .before .before .before .args in
     let l = c .before .before .before .before .before .before .before .loop in
-    let f = c .before .before .before .feed in
+    let f = c .before .before .before .mark in
     let x = c .before .before .before .before .before .number in (
       omega arith,
       f .kept .0 ∙ l .inv .1,
@@ -81,8 +81,8 @@ returns-2 c =
     let e = le-antisymm (l .inv .0) (c .loop-test .left) in
     rw (← e) (l .inv .2)
 
-pub feed-list-spec : {M : Type 1} → statement M
-feed-list-spec =
+pub mark-list-spec : {M : Type 1} → statement M
+mark-list-spec =
     tie.close
     (tie.spec
     Inv-loop
@@ -90,7 +90,7 @@ feed-list-spec =
     loop-holds
     add-number
     number-requires
-    feed-requires
+    mark-requires
     same-length
     returns
     (λ c. search needs)

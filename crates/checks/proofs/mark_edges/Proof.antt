@@ -1,5 +1,6 @@
--- `checks::feed_edges` meets its contract.
+-- `checks::mark_edges` meets its contract.
 -- Assumes nothing.
+use mathlib.Core.Logic.{inl}
 use mathlib.Core.Path.{_≡_, refl, sym, _∙_, subst}
 use Prim.Native.Nat.{_+_, _≤_, _-_}
 use borrow.Author.Needs.{needs}
@@ -11,9 +12,9 @@ use Rattle.le.specs.Rows.{Holds}
 use Rattle.le.specs.declared.Row.{Row}
 use Rattle.form.proofs.Stored.{stored-rows}
 use Rattle.checks.proofs.Edges.{Sofar, Fit, begun, there, fit, ended}
-use Rattle.checks.proofs.Fed.{fed-cleared}
-use Rattle.checks.proofs.feed_edges.Statement.{statement}
-use Rattle.checks.proofs.feed_edges.Tie as tie
+use Rattle.checks.proofs.Marked.{marked-cleared}
+use Rattle.checks.proofs.mark_edges.Statement.{statement}
+use Rattle.checks.proofs.mark_edges.Tie as tie
 
 abbrev Inv-loop : tie.InvT-loop
 Inv-loop src z room₀ row k₀ i₀ i-end room k i = (i ≤ z .edges) × (i-end ≡ z .edges) × (length room ≡ length room₀) × Sofar src room (z .nodes) i k
@@ -39,7 +40,7 @@ loop-holds : tie.Need-loop-holds Inv-loop μ-loop
 loop-holds c =
     let d = c .before .before .before .clear in
     let S = c .before .before .before .before .before .before .before in
-    (omega arith, refl, refl, begun (S .pre .0) (d .last .0) (fed-cleared (now (S .args .room)) (d .last .0) (S .args .z .nodes) (S .pre .1) (d .ensures)))
+    (omega arith, refl, refl, begun (S .pre .0) (d .last .0) (marked-cleared (now (S .args .room)) (d .last .0) (S .args .z .nodes) (S .pre .1) (d .ensures)))
 
 edge-at-requires : tie.Need-edge-at-requires Inv-loop μ-loop
 edge-at-requires c κs =
@@ -48,29 +49,29 @@ edge-at-requires c κs =
     subst (λ (r : Row). Holds (now (S .args .src)) r (l .k + 2)) (sym (c .before .before .body-row .ensures))
     (there (S .pre .0) (l .room) (l .i) (l .k) (omega arith) (l .inv .3) .held)
 
-feed-edge-requires : tie.Need-feed-edge-requires Inv-loop μ-loop
-feed-edge-requires c κs =
+mark-both-requires : tie.Need-mark-both-requires Inv-loop μ-loop
+mark-both-requires c κs =
     let f = fitting (c .before) in
     let long = c .before .before .before .before .before .before .before .before .before .before .before .pre .1 in
-    ((f .held, omega (arith, long, c .before .before .before .loop .inv .2, c .before .before .before .before .before .before .before .clear .kept .0)), (f .sources-known, f .targets-known))
+    ((f .held, omega (arith, long, c .before .before .before .loop .inv .2, c .before .before .before .before .before .before .before .clear .kept .0), inl refl), (f .sources-known, f .targets-known))
 
 same-length : tie.Need-same-length Inv-loop μ-loop
-same-length c = c .before .before .before .feed-edge .kept .1 .1 .1 .1 .0 ∙ c .before .before .before .before .before .before .before .loop .inv .2 ∙ c .before .before .before .before .before .before .before .before .before .before .before .clear .kept .0
+same-length c = c .before .before .before .mark-both .kept .1 .1 .1 .1 .1 .1 .0 ∙ c .before .before .before .before .before .before .before .loop .inv .2 ∙ c .before .before .before .before .before .before .before .before .before .before .before .clear .kept .0
 
 returns : tie.Need-returns Inv-loop μ-loop
 returns c =
-    let f = c .before .before .before .feed-edge in
-    let new = f .last .1 .1 .1 .1 .0 in
-    sym (fitting (c .before .before .before .before .before) .stop new (f .result) (not-true _ (c .if1 .taken)) (f .ensures))
+    let f = c .before .before .before .mark-both in
+    let new = f .last .1 .1 .1 .1 .1 .1 .0 in
+    fitting (c .before .before .before .before .before) .stop new (f .result) (not-true _ (c .if1 .taken)) (f .ensures)
 
 loop-again : tie.Need-loop-again Inv-loop μ-loop
 loop-again c =
     let l = c .before .before .before .before .before .before .before .loop in
-    let f = c .before .before .before .feed-edge in
-    let new = f .last .1 .1 .1 .1 .0 in (
+    let f = c .before .before .before .mark-both in
+    let new = f .last .1 .1 .1 .1 .1 .1 .0 in (
       omega arith,
       l .inv .1,
-      f .kept .1 .1 .1 .1 .0 ∙ l .inv .2,
+      f .kept .1 .1 .1 .1 .1 .1 .0 ∙ l .inv .2,
       fitting (c .before .before .before .before .before) .turn new (f .result) (not-false _ (c .if1 .left)) (f .ensures),
     )
 
@@ -78,10 +79,10 @@ same-length-2 : tie.Need-same-length-2 Inv-loop μ-loop
 same-length-2 c = c .before .loop .inv .2 ∙ c .before .before .before .before .before .clear .kept .0
 
 returns-2 : tie.Need-returns-2 Inv-loop μ-loop
-returns-2 c = let l = c .before .loop in sym (ended (c .before .before .before .before .before .before .before .before .before .pre .0) (l .room) (l .i) (l .k) (omega arith) (l .inv .3))
+returns-2 c = let l = c .before .loop in ended (c .before .before .before .before .before .before .before .before .before .pre .0) (l .room) (l .i) (l .k) (omega arith) (l .inv .3)
 
-pub feed-edges-spec : {M : Type 1} → statement M
-feed-edges-spec =
+pub mark-edges-spec : {M : Type 1} → statement M
+mark-edges-spec =
     tie.close
     (tie.spec
     Inv-loop
@@ -90,7 +91,7 @@ feed-edges-spec =
     body-row-requires
     loop-holds
     edge-at-requires
-    feed-edge-requires
+    mark-both-requires
     same-length
     returns
     (λ c. search needs)
