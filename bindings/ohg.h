@@ -157,7 +157,8 @@ uint64_t ohg_cycle_breaking_nodes(const uint8_t *src, size_t src_len, uint8_t *l
  * a: 1 yes, 0 no. b: 0. Room: OHG_ROOM_NO_LOOP. Refusals: 10 (room), 1 to 6, 8. */
 uint64_t ohg_no_loop(const uint8_t *src, size_t src_len, uint8_t *room, size_t room_len);
 
-/* Whether each node occurs at most once among all edge targets and at most once among all edge sources.
+/* Whether each node is fed exactly once, counting edge targets and global sources, and used exactly once, counting edge sources and
+ * global targets. A node that stands twice in a list is counted twice; a graph without nodes gets a yes.
  * a: 1 yes, 0 no. b: 0. Room: OHG_ROOM_ONCE_FED. Refusals: 10 (room), 1 to 6, 8. */
 uint64_t ohg_once_fed(const uint8_t *src, size_t src_len, uint8_t *room, size_t room_len);
 

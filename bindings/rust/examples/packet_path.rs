@@ -23,7 +23,7 @@
 //! - Without it three wires and four blocks go, which is all: 7. Chosen are 1 and 4; freely went 4 + 4 + 7 = 15.
 //! - Merged has two entries and server three, so spiderizing them adds 5 nodes to 9, and two spiders for each to 8 edges.
 //!   The spiders have a port for each of the 5 entries and two for each of the 2 nodes: 19 + 5 + 4 = 28.
-//! - Server feeds probe and rewriter, so the path is not once-fed. Afterwards each fresh node joins one entry to one
+//! - Probe and rewriter both use server, so the path is not once-fed. Afterwards each fresh node joins one entry to one
 //!   spider, merged and server each join two spiders, and the other wires are as they were, fed and used once.
 
 use ohg::{Graph, NodeId, Refusal};

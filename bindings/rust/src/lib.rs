@@ -276,7 +276,10 @@ impl Graph {
         Ok(answered(packed)?.0 == 1)
     }
 
-    /// Whether each node occurs at most once among all edge targets and at most once among all edge sources.
+    /// Whether each node is fed exactly once, counting edge targets and global sources, and used exactly once, counting
+    /// edge sources and global targets.
+    ///
+    /// A node that stands twice in a list is counted twice; a graph without nodes gets a yes.
     ///
     /// Refused: [`PendingPair`](Refusal::PendingPair).
     pub fn once_fed(&self) -> Result<bool, Refusal> {

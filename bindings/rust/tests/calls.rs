@@ -118,8 +118,22 @@ fn the_choice_meets_every_loop() {
 fn the_checks_say_yes_and_no() {
     assert_eq!(Graph::empty().no_loop(), Ok(true));
     assert_eq!(p6().no_loop(), Ok(false));
+    assert_eq!(Graph::empty().once_fed(), Ok(true));
+    assert_eq!(p2().once_fed(), Ok(true));
     assert_eq!(p6().once_fed(), Ok(true));
     assert_eq!(p7().once_fed(), Ok(false));
+}
+
+#[test]
+fn global_entries_feed_and_use() {
+    let p4 = Graph::identity(&[7]).unwrap();
+    assert_eq!(p4.once_fed(), Ok(true));
+    assert_eq!(p4.spiderize().and_then(|p5| p5.once_fed()), Ok(true));
+    // The node alone, and fed by a block besides.
+    assert_eq!(Graph::discrete(&[7]).unwrap().once_fed(), Ok(false));
+    let mut driven = p4.clone();
+    driven.new_edge(9, &[], &[NodeId(0)]).unwrap();
+    assert_eq!(driven.once_fed(), Ok(false));
 }
 
 #[test]

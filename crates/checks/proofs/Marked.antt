@@ -50,12 +50,8 @@ pub fared-other : (r : Bool) (table : List ℕ) (nodes way : ℕ) → Way way �
 fared-other true table nodes way w xs ys h = marked-other table nodes way w xs ys h
 fared-other false table nodes way w xs ys h = twice-other h
 
--- a way is at most 3, and 3 less it is the other
-pub way-low : (way : ℕ) → Way way → way ≤ 3
-way-low way (inl e) = omega arith
-way-low way (inr e) = omega arith
-
-pub other-way : (way : ℕ) → Way way → Way (3 - way)
+-- 3 less a way is the other
+other-way : (way : ℕ) → Way way → Way (3 - way)
 other-way way (inl e) = inr (omega arith)
 other-way way (inr e) = inl (omega arith)
 

@@ -18,6 +18,14 @@ use Rattle.graph.proofs.Monogamous.{occurrences-append}
 use Rattle.checks.proofs.Edges.{is-nodes}
 use Rattle.checks.proofs.Marked.{twice-among, twice-not, marked-says}
 
+-- the global lists stand in the row
+module _ {b : List ℕ} {z : Sizes} (s : Stored b z) (row : Row) (is : row ≡ bodyOf z) where
+  pub sources-there : span b row (listsFrom z) (z .sources) ≡ graphOf b .sources
+  sources-there = rw is (stored-rows s .sources)
+
+  pub targets-there : span b row (listsFrom z + z .sources) (z .targets) ≡ graphOf b .targets
+  targets-there = rw is (stored-rows s .targets)
+
 module _ {b : List ℕ} {z : Sizes} (s : Stored b z) (r : Bool) where
   -- the edges mark a node twice
   pub edges-stop : r ≡ false → (table : List ℕ) → Fared r table (z .nodes) 2 (edgeTargets (graphOf b .edges)) (edgeSources (graphOf b .edges)) → monogamous (graphOf b) ≡ false
@@ -27,14 +35,10 @@ module _ {b : List ℕ} {z : Sizes} (s : Stored b z) (r : Bool) where
       twice-not g (rw (is-nodes s) at (twice-among (feeds g) (uses g) (λ v. omega (arith, occurrences-append v (edgeTargets (g .edges)) (g .sources)))
       (λ v. omega (arith, occurrences-append v (edgeSources (g .edges)) (g .targets))) t))
 
-  -- they do not, and then come the global lists, which stand in the row
-  pub lists-marked : r ≡ true → (old : List ℕ) → Fared r old (z .nodes) 2 (edgeTargets (graphOf b .edges)) (edgeSources (graphOf b .edges)) → (row : Row) → row ≡ bodyOf z
-      → (new : List ℕ) (q : Bool) → MarksBoth old new (z .nodes) q 2 (span b row (listsFrom z) (z .sources)) (span b row (listsFrom z + z .sources) (z .targets))
-      → Fared q new (z .nodes) 2 (feeds (graphOf b)) (uses (graphOf b))
-  lists-marked e old h row is new q f =
-      let es = graphOf b .edges in
-      let rows = stored-rows s in
-      rw (is, rows .sources, rows .targets) at (f (edgeTargets es) (edgeSources es) (rw e at h))
+  -- they do not, and then come the global lists
+  pub lists-marked : r ≡ true → (old : List ℕ) → Fared r old (z .nodes) 2 (edgeTargets (graphOf b .edges)) (edgeSources (graphOf b .edges))
+      → (new : List ℕ) (q : Bool) → MarksBoth old new (z .nodes) q 2 (graphOf b .sources) (graphOf b .targets) → Fared q new (z .nodes) 2 (feeds (graphOf b)) (uses (graphOf b))
+  lists-marked e old h new q f = f (edgeTargets (graphOf b .edges)) (edgeSources (graphOf b .edges)) (rw e at h)
 
   -- the global lists mark a node twice
   pub lists-stop : r ≡ false → (table : List ℕ) → Fared r table (z .nodes) 2 (feeds (graphOf b)) (uses (graphOf b)) → monogamous (graphOf b) ≡ false

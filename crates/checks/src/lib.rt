@@ -37,7 +37,7 @@ fn mark(room: &mut [u8], id: usize, way: u8) -> bool
 {
     let marks = room[id];
     if marks / way % 2 == 1 {
-        return false;
+        return false; // a second time
     }
     room[id] = marks + way;
     true
@@ -57,8 +57,8 @@ fn mark_list(src: &[u8], r: Row, k: usize, n: usize, nodes: usize, room: &mut [u
     true
 }
 
-// Marks the nodes of n entries of a row in one way and those of the m entries after them in the other. No as soon as one was marked so before.
-fn mark_both(
+// Marks the nodes of an edge, whose n sources stand from number k on and its m targets after them. No as soon as one was marked so before.
+fn mark_edge(
     src: &[u8],
     r: Row,
     k: usize,
@@ -66,16 +66,15 @@ fn mark_both(
     m: usize,
     nodes: usize,
     room: &mut [u8],
-    way: u8,
 ) -> bool
-    requires { ⌜ Holds (now src) r (k + n + m) × (nodes ≤ length (now room)) × Way way ⌝ }
+    requires { ⌜ Holds (now src) r (k + n + m) × (nodes ≤ length (now room)) ⌝ }
     requires { ⌜ Below nodes (span (now src) r k n) × Below nodes (span (now src) r (k + n) m) ⌝ }
-    ensures { λ b. ⌜ MarksBoth (now (room .entry)) (now (room .exit)) nodes b way (span (now (src .entry)) r k n) (span (now (src .entry)) r (k + n) m) ⌝ }
+    ensures { λ b. ⌜ MarksBoth (now (room .entry)) (now (room .exit)) nodes b 1 (span (now (src .entry)) r k n) (span (now (src .entry)) r (k + n) m) ⌝ }
 {
-    if !mark_list(src, r, k, n, nodes, room, way) {
+    if !mark_list(src, r, k, n, nodes, room, USED) {
         return false;
     }
-    mark_list(src, r, k + n, m, nodes, room, BOTH - way)
+    mark_list(src, r, k + n, m, nodes, room, FED)
 }
 
 // Marks the nodes of all edges in a cleared table. No as soon as one was marked twice in one way.
@@ -88,12 +87,25 @@ fn mark_edges(src: &[u8], z: Sizes, room: &mut [u8]) -> bool
     let mut k: usize = 0;
     for i in 0..z.edges {
         let e = form::edge_at(src, row, k);
-        if !mark_both(src, row, e.first, e.sources, e.targets, z.nodes, room, USED) {
+        if !mark_edge(src, row, e.first, e.sources, e.targets, z.nodes, room) {
             return false;
         }
         k = e.end;
     }
     true
+}
+
+// Marks the nodes of the global lists: a global source feeds, and a global target uses. No as soon as one was marked so before.
+fn mark_lists(src: &[u8], z: Sizes, room: &mut [u8]) -> bool
+    requires { ⌜ Stored (now src) z × (z .nodes ≤ length (now room)) ⌝ }
+    ensures { λ b. ⌜ MarksBoth (now (room .entry)) (now (room .exit)) (z .nodes) b 2 (graphOf (now (src .entry)) .sources) (graphOf (now (src .entry)) .targets) ⌝ }
+{
+    let row = form::body_row(z);
+    let lists = 2 * z.edges + z.ports;
+    if !mark_list(src, row, lists, z.sources, z.nodes, room, FED) {
+        return false;
+    }
+    mark_list(src, row, lists + z.sources, z.targets, z.nodes, room, USED)
 }
 
 // Whether every node is marked in both ways.
@@ -117,17 +129,7 @@ fn each_once(src: &[u8], z: Sizes, room: &mut [u8]) -> bool
     if !mark_edges(src, z, room) {
         return false;
     }
-    let lists = 2 * z.edges + z.ports;
-    if !mark_both(
-        src,
-        form::body_row(z),
-        lists,
-        z.sources,
-        z.targets,
-        z.nodes,
-        room,
-        FED,
-    ) {
+    if !mark_lists(src, z, room) {
         return false;
     }
     all_marked(room, z.nodes)

@@ -21,7 +21,7 @@ shared-slice-read-if1 : tie.Need-shared-slice-read-if1 Inv-loop μ-loop
 shared-slice-read-if1 c = omega arith
 
 returns : tie.Need-returns Inv-loop μ-loop
-returns c = (c .before .before .before .loop .id, omega arith, c .if1 .taken)
+returns c = (c .before .before .before .loop .id, omega arith, λ e. omega arith)
 
 add-id : tie.Need-add-id Inv-loop μ-loop
 add-id c = omega arith

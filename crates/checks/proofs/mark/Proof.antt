@@ -10,6 +10,9 @@ use borrow.Author.Tests.{eq-eqb, ne-eqb}
 use Rattle.checks.proofs.mark.Statement.{statement}
 use Rattle.checks.proofs.mark.Tie as tie
 
+returns-2 : tie.Need-returns-2
+returns-2 c = (rw (ne-eqb _ _ (c .if1 .left)), refl)
+
 slice-read-marks : tie.Need-slice-read-marks
 slice-read-marks c = search needs
 
@@ -37,9 +40,6 @@ slice-write-room c = search needs
 
 same-length : tie.Need-same-length
 same-length c = search needs
-
-returns-2 : tie.Need-returns-2
-returns-2 c = (rw (ne-eqb _ _ (c .if1 .left)), refl)
 
 pub mark-spec : {M : Type 1} → statement M
 mark-spec =

@@ -1,6 +1,5 @@
 -- `checks::mark_edges` meets its contract.
 -- Assumes nothing.
-use mathlib.Core.Logic.{inl}
 use mathlib.Core.Path.{_≡_, refl, sym, _∙_, subst}
 use Prim.Native.Nat.{_+_, _≤_, _-_}
 use borrow.Author.Needs.{needs}
@@ -49,25 +48,25 @@ edge-at-requires c κs =
     subst (λ (r : Row). Holds (now (S .args .src)) r (l .k + 2)) (sym (c .before .before .body-row .ensures))
     (there (S .pre .0) (l .room) (l .i) (l .k) (omega arith) (l .inv .3) .held)
 
-mark-both-requires : tie.Need-mark-both-requires Inv-loop μ-loop
-mark-both-requires c κs =
+mark-edge-requires : tie.Need-mark-edge-requires Inv-loop μ-loop
+mark-edge-requires c κs =
     let f = fitting (c .before) in
     let long = c .before .before .before .before .before .before .before .before .before .before .before .pre .1 in
-    ((f .held, omega (arith, long, c .before .before .before .loop .inv .2, c .before .before .before .before .before .before .before .clear .kept .0), inl refl), (f .sources-known, f .targets-known))
+    ((f .held, omega (arith, long, c .before .before .before .loop .inv .2, c .before .before .before .before .before .before .before .clear .kept .0)), (f .sources-known, f .targets-known))
 
 same-length : tie.Need-same-length Inv-loop μ-loop
-same-length c = c .before .before .before .mark-both .kept .1 .1 .1 .1 .1 .1 .0 ∙ c .before .before .before .before .before .before .before .loop .inv .2 ∙ c .before .before .before .before .before .before .before .before .before .before .before .clear .kept .0
+same-length c = c .before .before .before .mark-edge .kept .1 .1 .1 .1 .1 .1 .0 ∙ c .before .before .before .before .before .before .before .loop .inv .2 ∙ c .before .before .before .before .before .before .before .before .before .before .before .clear .kept .0
 
 returns : tie.Need-returns Inv-loop μ-loop
 returns c =
-    let f = c .before .before .before .mark-both in
+    let f = c .before .before .before .mark-edge in
     let new = f .last .1 .1 .1 .1 .1 .1 .0 in
     fitting (c .before .before .before .before .before) .stop new (f .result) (not-true _ (c .if1 .taken)) (f .ensures)
 
 loop-again : tie.Need-loop-again Inv-loop μ-loop
 loop-again c =
     let l = c .before .before .before .before .before .before .before .loop in
-    let f = c .before .before .before .mark-both in
+    let f = c .before .before .before .mark-edge in
     let new = f .last .1 .1 .1 .1 .1 .1 .0 in (
       omega arith,
       l .inv .1,
@@ -91,7 +90,7 @@ mark-edges-spec =
     body-row-requires
     loop-holds
     edge-at-requires
-    mark-both-requires
+    mark-edge-requires
     same-length
     returns
     (λ c. search needs)

@@ -45,12 +45,6 @@ add-number c = omega (arith, holds-index (c .before .before .before .before .pre
 number-requires : tie.Need-number-requires Inv-loop μ-loop
 number-requires c κs = holds-less (c .before .before .before .before .pre .0) _ (omega arith)
 
-mark-requires : tie.Need-mark-requires Inv-loop μ-loop
-mark-requires c κs = (omega (arith, known (c .before)), c .before .before .before .before .before .before .pre .3)
-
-same-length : tie.Need-same-length Inv-loop μ-loop
-same-length c = c .before .before .before .mark .kept .0 ∙ c .before .before .before .before .before .before .before .loop .inv .1
-
 returns : tie.Need-returns Inv-loop μ-loop
 returns c =
     let a = c .before .before .before .before .before .before .before .before .before .before .args in
@@ -71,6 +65,18 @@ loop-again c =
       list-turn (now (a .room)) (a .nodes) (a .way) (now (a .src)) (a .r) (a .k) (a .n) (l .i) (omega arith) (l .room) (l .inv .2) (x .result) (x .ensures .0) (known (c .before .before .before .before .before)) (omega arith)
           (c .before .before .before .before .before .before .before .before .before .before .pre .3) (f .result) (f .ensures .0) (f .last .0) (f .ensures .1) (not-false _ (c .if1 .left)),
     )
+
+mark-requires : tie.Need-mark-requires Inv-loop μ-loop
+mark-requires c κs = (omega (arith, known (c .before)), c .before .before .before .before .before .before .pre .3)
+
+same-length : tie.Need-same-length Inv-loop μ-loop
+same-length c = c .before .before .before .mark .kept .0 ∙ c .before .before .before .before .before .before .before .loop .inv .1
+
+add-i : tie.Need-add-i Inv-loop μ-loop
+add-i c = omega arith
+
+loop-less : tie.Need-loop-less Inv-loop μ-loop
+loop-less c = omega arith
 
 same-length-2 : tie.Need-same-length-2 Inv-loop μ-loop
 same-length-2 c = c .before .loop .inv .1

@@ -10,19 +10,39 @@ use crate::rng::Rng;
 pub fn drawings() -> impl Iterator<Item = Drawing> {
     (0..=2).flat_map(|nodes| {
         let edges = up_to(2, &operations_and_spiders(nodes));
-        let lists = up_to(1, &(0..nodes).collect::<Vec<_>>());
-        let pairs = up_to(1, &pairs_of(nodes));
-        let total = edges.len() * lists.len() * lists.len() * pairs.len();
-        (0..total).map(move |k| {
-            let mut digits = k;
-            Drawing {
-                labels: vec![0x0403_0201, u32::MAX][..nodes as usize].to_vec(),
-                edges: edges[place(&mut digits, edges.len())].clone(),
-                sources: lists[place(&mut digits, lists.len())].clone(),
-                targets: lists[place(&mut digits, lists.len())].clone(),
-                pairs: pairs[place(&mut digits, pairs.len())].clone(),
-            }
-        })
+        combined(nodes, edges, 1, up_to(1, &pairs_of(nodes)))
+    })
+}
+
+/// All drawings of up to so many nodes, so many edges, so many ports an edge and so many entries in each global list.
+pub fn with_lists(
+    [nodes, most_edges, ports, entries]: [usize; 4],
+) -> impl Iterator<Item = Drawing> {
+    (0..=nodes as u16).flat_map(move |nodes| {
+        let edges = up_to(most_edges, &edges(nodes, ports));
+        combined(nodes, edges, entries, vec![vec![]])
+    })
+}
+
+/// All drawings of so many nodes with some of these edges, up to so many entries in each global list and some of these
+/// pairs.
+fn combined(
+    nodes: u16,
+    edges: Vec<Vec<Edge>>,
+    entries: usize,
+    pairs: Vec<Vec<(u16, u16)>>,
+) -> impl Iterator<Item = Drawing> {
+    let lists = up_to(entries, &(0..nodes).collect::<Vec<_>>());
+    let total = edges.len() * lists.len() * lists.len() * pairs.len();
+    (0..total).map(move |k| {
+        let mut digits = k;
+        Drawing {
+            labels: vec![0x0403_0201, u32::MAX, 0][..nodes as usize].to_vec(),
+            edges: edges[place(&mut digits, edges.len())].clone(),
+            sources: lists[place(&mut digits, lists.len())].clone(),
+            targets: lists[place(&mut digits, lists.len())].clone(),
+            pairs: pairs[place(&mut digits, pairs.len())].clone(),
+        }
     })
 }
 
