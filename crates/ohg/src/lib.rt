@@ -202,7 +202,7 @@ pub extern "C" fn ohg_no_loop(src: &[u8], room: &mut [u8]) -> u64
     pack(x)
 }
 
-// Whether each node occurs at most once among all edge targets and at most once among all edge sources.
+// Whether each node is fed exactly once, counting edge targets and global sources, and used exactly once, counting edge sources and global targets.
 #[no_mangle]
 pub extern "C" fn ohg_once_fed(src: &[u8], room: &mut [u8]) -> u64
     ensures { λ r. ⌜ r ≡ packed (onceFedCall (now (src .entry)) (length (now (room .entry)))) ⌝ }
