@@ -3,9 +3,11 @@
 ghost use mathlib.Core.Path.{_≡_};
 ghost use Prim.Native.Nat.{_+_, _-_, _^_};
 ghost use Rattle.graph.specs.Graph as graph;
+ghost use Rattle.graph.specs.Graph.{countsFit, sizesFit};
+ghost use Rattle.graph.specs.Versions.{fittingSizes};
 ghost use Rattle.le.specs.Le.{Wide};
 ghost use Rattle.le.specs.Rows.{Holds};
-ghost use Rattle.form.specs.Form.{meant, bodyOf, labelsOf, edgeIn, Low, refusalIn, refusalRead};
+ghost use Rattle.form.specs.Form.{meant, countsOf, bodyOf, labelsOf, edgeIn, Low, refusalIn, refusalRead};
 use le::Row;
 
 // Why a call was refused: the number that document 01 gives it.
@@ -56,6 +58,22 @@ pub fn form1() -> Format
     Format {
         version: 1,
         width: 2,
+        nodes: graph::MAX_NODES_1,
+        edges: graph::MAX_EDGES_1,
+        ports: graph::MAX_PORTS_1,
+        sources: graph::MAX_SOURCES_1,
+        targets: graph::MAX_TARGETS_1,
+        pairs: graph::MAX_PAIRS_1,
+    }
+}
+
+// Version 2, whose limits are the largest.
+pub fn form2() -> Format
+    ensures { λ r. ⌜ meant r ≡ graph.form2 ⌝ }
+{
+    Format {
+        version: 2,
+        width: 4,
         nodes: graph::MAX_NODES,
         edges: graph::MAX_EDGES,
         ports: graph::MAX_PORTS,
@@ -74,6 +92,46 @@ pub struct Sizes {
     pub sources: usize,
     pub targets: usize,
     pub pairs: usize,
+}
+
+// Whether no count is above its limit in a version.
+pub fn counts_fit(f: Format, z: Sizes) -> bool
+    ensures { λ r. ⌜ r ≡ countsFit (meant f) (countsOf z) ⌝ }
+{
+    if f.nodes < z.nodes {
+        return false;
+    }
+    if f.edges < z.edges {
+        return false;
+    }
+    if f.sources < z.sources {
+        return false;
+    }
+    if f.targets < z.targets {
+        return false;
+    }
+    z.pairs <= f.pairs
+}
+
+// Whether no count and no port sum is.
+pub fn sizes_fit(f: Format, z: Sizes) -> bool
+    ensures { λ r. ⌜ r ≡ sizesFit (meant f) (countsOf z) (z .ports) ⌝ }
+{
+    if f.ports < z.ports {
+        return false;
+    }
+    counts_fit(f, z)
+}
+
+// The width of the version in which a graph of these sizes is stored.
+pub fn fitting_width(z: Sizes) -> usize
+    ensures { λ r. ⌜ r ≡ fittingSizes (countsOf z) (z .ports) .width ⌝ }
+{
+    if sizes_fit(form1(), z) {
+        form1().width
+    } else {
+        form2().width
+    }
 }
 
 // What reading answers.

@@ -1,6 +1,6 @@
 -- Deleting never passes a limit: what is left is no larger than what was there, so neither call gives 9.
 -- Assumes nothing.
-use mathlib.Core.Bool.{Bool, true, false, not, cond, _&&_}
+use mathlib.Core.Bool.{Bool, true, false, false≢true, not, cond, _&&_}
 use mathlib.Core.List.{List, [], _∷_, _++_, map}
 use mathlib.Core.Path.{_≡_, refl, sym, ap, subst}
 use Prim.Native.Nat.{ℕ, suc, _+_, _≤_}
@@ -15,7 +15,7 @@ use Rattle.graph.specs.Lists.{joined, keep, among}
 use Rattle.graph.specs.Versions.{StoredGraph, read, store}
 use Rattle.graph.proofs.Kept.{delete-edges-proper, delete-nodes-proper}
 use Rattle.graph.proofs.Steps.{same-refusal, never, same-answer, came}
-use Rattle.graph.proofs.Versions.{read-sound, read-between, store-formed}
+use Rattle.graph.proofs.Versions.{read-sound, read-by, store-formed}
 
 -- ---- what is left is no more
 
@@ -110,7 +110,7 @@ after-step (refused r) next h k = record { other = λ e. h .other (ap refused (s
 after-step (answered x) next h k = k x refl
 
 reads : (b : List ℕ) → NotNine (read b)
-reads b = record { other = λ e. let h = read-between b .number (refusal 9) e in omega (arith, h .1) }
+reads b = record { other = λ e. let h : false ≡ true = read-by b .number (refusal 9) e in absurd (false≢true h) }
 
 lists : (s : StoredGraph) (count : ℕ) (b : List ℕ) → NotNine (idList (s .format) count b)
 unfolding idList

@@ -2,6 +2,6 @@
 mod Reach
 mod Small
 mod Edge
-mod Whole
+pub mod Whole
 mod Held
 mod Lent

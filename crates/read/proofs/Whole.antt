@@ -22,13 +22,14 @@ use Rattle.read.specs.declared.Edges.{Edges}
 use Rattle.graph.specs.Answer as answer
 use Rattle.graph.specs.Answer.{Answer, refused, answered, refusal, _>>=_}
 use Rattle.graph.specs.Form.{headerBytes}
-use Rattle.graph.specs.Graph.{Edge, Graph, Counts, ids, edgeEntries, Format}
+use Rattle.graph.specs.Graph.{Edge, Graph, Counts, counts, ports, ids, edgeEntries, Format}
 use Rattle.graph.specs.Lists.{allBelow, flat, paired}
 use Rattle.graph.specs.Read.{readEdges, assembled, readLists, readBody}
 use Rattle.le.specs.Le.{numbers}
 use Rattle.graph.proofs.ReadWrite.{flat-paired}
 use Rattle.graph.proofs.Reading.{edges-rest}
 use Rattle.graph.proofs.Steps.{stops, goes}
+use Rattle.graph.proofs.Versions.{as-stored}
 use Rattle.graph.proofs.Verdicts.{lists-5, lists-6, lists-0, labels-5, body-edges}
 use Rattle.le.proofs.Numbers.{length-numbers}
 use Rattle.le.proofs.Rows.{numbers-append}
@@ -114,8 +115,17 @@ pub version-read : (m : Answer Format) (f : form.Format) → version.Is f ≡ ve
 version-read (refused r) f e = let o : _≡_ {A = ℕ} 0 1 = cc in absurd (omega arith)
 version-read (answered g) f e = let same : coded g ≡ f = cc in ap (λ (k : form.Format). answered (meant k)) same
 
+-- a graph read in a width
+pub graph-refused : (w : ℕ) (m : Answer Graph) (x : Refusal) → Refused x ≡ measured w m → m ≡ refused (refusal (x .no))
+graph-refused w (refused r) x e = same-refusal (cc)
+graph-refused w (answered g) x e = let o : _≡_ {A = ℕ} 0 1 = cc in absurd (omega arith)
+
+pub graph-read : (w : ℕ) (m : Answer Graph) (z : Sizes) → Sized z ≡ measured w m → (g : Graph) × (m ≡ answered g) × (z ≡ sized w (counts g) (ports g))
+graph-read w (refused r) z e = let o : _≡_ {A = ℕ} 0 1 = cc in absurd (omega arith)
+graph-read w (answered g) z e = (g, refl, cc)
+
 -- a graph read in a version is measured in its width
-pub measured-in : (f : Format) (m : Answer Graph) → measured (f .width) m ≡ reading (m >>= λ g. answered (record { format = f; graph = g }))
+pub measured-in : (f : Format) (m : Answer Graph) → measured (f .width) m ≡ reading (m >>= as-stored f)
 unfolding _>>=_
 measured-in f (refused r) = refl
 measured-in f (answered g) = refl

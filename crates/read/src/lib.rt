@@ -1,4 +1,4 @@
-// Reading: any bytes of any version of the stored form, with refusals 1 to 6, and the checks that calls make of their lists and numbers (7, 8, 10).
+// Reading: any bytes of any version of the stored form, with refusals 1 to 6 and 13, and the checks that calls make of their lists and numbers (7, 8, 10).
 mod reader;
 
 ghost use mathlib.Core.Path.{_≡_};
@@ -10,12 +10,12 @@ ghost use Rattle.le.specs.Le.{Wide, numbers, numberAt};
 ghost use Rattle.le.specs.Rows.{rowAt, Holds, span};
 ghost use Rattle.graph.specs.Lists.{same};
 ghost use Rattle.graph.specs.Graph as graph;
-ghost use Rattle.graph.specs.Graph.{Edge, Graph, countsFit, edgeEntries, Within, Usable};
+ghost use Rattle.graph.specs.Graph.{Edge, Graph, edgeEntries, Within, Usable};
 ghost use Rattle.graph.specs.Form.{mark, headerBytes};
-ghost use Rattle.graph.specs.Answer.{_else_};
-ghost use Rattle.graph.specs.Read.{readVersion, readCounts, readEdge, readEdges, readLists, readBody, readIn};
+ghost use Rattle.graph.specs.Answer.{answered, _else_};
+ghost use Rattle.graph.specs.Read.{readVersion, readCounts, readEdge, readEdges, readLists, readBody, readIn, readAs};
 ghost use Rattle.graph.specs.Versions as versions;
-ghost use Rattle.graph.specs.Versions.{formatNumbered};
+ghost use Rattle.graph.specs.Versions.{formatNumbered, readFitting};
 ghost use Rattle.graph.specs.Calls as calls;
 ghost use Rattle.graph.specs.Calls.{idList, labelList};
 ghost use Rattle.form.specs.Form.{meant, countsOf, numbered, counted, tested, reading};
@@ -64,33 +64,17 @@ pub enum Versioned {
     Refused(Refusal),
 }
 
-// The version of this number: 3 there is none.
+// The version of this number: 3 it is neither.
 fn format_numbered(version: usize) -> Versioned
     ensures { λ r. ⌜ r ≡ versioned (formatNumbered version) ⌝ }
 {
-    if version != 1 {
-        return Versioned::Refused(Refusal { no: 3 });
+    if version == 1 {
+        return Versioned::Is(form::form1());
     }
-    Versioned::Is(form::form1())
-}
-
-// Whether no count is above its limit in a version.
-pub fn counts_fit(f: Format, z: Sizes) -> bool
-    ensures { λ r. ⌜ r ≡ countsFit (meant f) (countsOf z) ⌝ }
-{
-    if f.nodes < z.nodes {
-        return false;
+    if version == 2 {
+        return Versioned::Is(form::form2());
     }
-    if f.edges < z.edges {
-        return false;
-    }
-    if f.sources < z.sources {
-        return false;
-    }
-    if f.targets < z.targets {
-        return false;
-    }
-    z.pairs <= f.pairs
+    Versioned::Refused(Refusal { no: 3 })
 }
 
 // The rest of a header: 5 it is cut short, 4 a count is above its limit, or its counts.
@@ -102,7 +86,7 @@ fn read_counts(s: &[u8], f: Format) -> Reading
         return Reading::Refused(Refusal { no: 5 });
     }
     let z = counts_at(s, f.width);
-    if !counts_fit(f, z) {
+    if !form::counts_fit(f, z) {
         return Reading::Refused(Refusal { no: 4 });
     }
     Reading::Sized(z)
@@ -277,6 +261,35 @@ fn read_body(s: &[u8], f: Format, z: Sizes) -> Reading
     }
 }
 
+// The same version with its width as one of the two numbers that it can be, so that the compiler makes the loops of reading anew for each of them.
+fn known_width(f: Format) -> Format
+    requires { ⌜ Wide (f .width) ⌝ }
+    ensures { λ r. ⌜ r ≡ f ⌝ }
+{
+    if f.width == 2 {
+        return Format {
+            version: f.version,
+            width: 2,
+            nodes: f.nodes,
+            edges: f.edges,
+            ports: f.ports,
+            sources: f.sources,
+            targets: f.targets,
+            pairs: f.pairs,
+        };
+    }
+    Format {
+        version: f.version,
+        width: 4,
+        nodes: f.nodes,
+        edges: f.edges,
+        ports: f.ports,
+        sources: f.sources,
+        targets: f.targets,
+        pairs: f.pairs,
+    }
+}
+
 // What bytes of this version are read as: 5, 4, 6, or the sizes of the graph.
 fn read_in(s: &[u8], f: Format) -> Reading
     requires { ⌜ Usable (meant f) ⌝ }
@@ -286,7 +299,40 @@ fn read_in(s: &[u8], f: Format) -> Reading
     let Reading::Sized(z) = head else {
         return head;
     };
-    read_body(s, f, z)
+    read_body(s, known_width(f), z)
+}
+
+// What any bytes are read as by one that knows this version alone: 3 it is another.
+pub fn read_as(src: &[u8], f: Format) -> Reading
+    requires { ⌜ Usable (meant f) ⌝ }
+    ensures { λ r. ⌜ r ≡ measured (f .width) (readAs (meant f) (now (src .entry))) ⌝ }
+{
+    let version = read_version(src);
+    let Step::Number(v) = version else {
+        return Reading::Refused(version.refusal());
+    };
+    if v != f.version {
+        return Reading::Refused(Refusal { no: 3 });
+    }
+    read_in(src, f)
+}
+
+// What bytes of this version are read as: 13 the graph is stored in another one. No graph of version 1 is, so there nothing is asked.
+fn read_fitting(src: &[u8], f: Format) -> Reading
+    requires { ⌜ (readVersion (now src) ≡ answered (f .version)) × (formatNumbered (f .version) ≡ answered (meant f)) ⌝ }
+    ensures { λ r. ⌜ r ≡ measured (f .width) (readFitting (meant f) (now (src .entry))) ⌝ }
+{
+    let graph = read_in(src, f);
+    let Reading::Sized(z) = graph else {
+        return graph;
+    };
+    if f.version == 1 {
+        return graph;
+    }
+    if form::fitting_width(z) != z.width {
+        return Reading::Refused(Refusal { no: 13 });
+    }
+    graph
 }
 
 // What any bytes are read as: the sizes of the graph, or the refusal.
@@ -298,7 +344,7 @@ pub fn read(src: &[u8]) -> Reading
         return Reading::Refused(version.refusal());
     };
     match format_numbered(v) {
-        Versioned::Is(f) => read_in(src, f),
+        Versioned::Is(f) => read_fitting(src, f),
         Versioned::Refused(x) => Reading::Refused(x),
     }
 }

@@ -2,7 +2,7 @@
 -- Assumes nothing.
 use mathlib.Core.Bool.{Bool, true, false, and-eq-true-iff}
 use mathlib.Core.List.{List, [], _++_}
-use mathlib.Core.Logic.{inr}
+use mathlib.Core.Logic.{_⊎_, inl, inr}
 use mathlib.Core.Path.{_≡_, refl, sym, ap, _∙_, subst}
 use Prim.Native.Nat.{ℕ, _+_, _*_, _≤_}
 use native.Mathlib.Nat.{zero-add, add-zero}
@@ -22,24 +22,24 @@ use Rattle.graph.specs.Answer.{refused, answered, writing, lay, _else_, _>>_}
 use Rattle.graph.specs.Calls.{Next, made}
 use Rattle.graph.specs.Form.{header, encode, formBytes, labelRow, body}
 use Rattle.graph.specs.Graph as graph
-use Rattle.graph.specs.Graph.{Graph, counts, largest, countsFit, Within}
+use Rattle.graph.specs.Graph.{Graph, Format, counts, form1, form2, largest, countsFit, sizesFit, Within}
 use Rattle.graph.specs.Versions.{fitting}
 use Rattle.graph.proofs.Laws.{length-encode}
 use Rattle.graph.proofs.Places.{sets-lay}
 use Rattle.graph.proofs.ReadWrite.{fits-within}
 use Rattle.graph.proofs.Rows.{encode-rows, length-label-row}
 use Rattle.graph.proofs.Steps.{same-answer, same-refusal, never, passed}
-use Rattle.graph.proofs.Versions.{sizes-version}
+use Rattle.graph.proofs.Versions.{version1, same-width, sizes-version, first-within}
 use Rattle.graph.proofs.Verdicts.{made-9, made-10, made-0}
 use Rattle.graph.proofs.WriteRead.{length-header}
 use Rattle.form.specs.Form.{sizesOf, countsOf, Low, labelsOf, bodyOf, bodySize}
 use Rattle.form.specs.declared.Sizes.{Sizes}
-use Rattle.write.specs.Write.{formatFor, fitted, sizesFit, resultSize, headed, drawn, Put, Room}
+use Rattle.write.specs.Write.{formatFor, fitted, resultSize, headed, drawn, Put, Room}
 
 -- ---- sizes of a result
 
 -- no limit is passed: each number has 32 bits
-pub fitted-low : (y : Sizes) → y ≡ fitted (countsOf y) (y .ports) → sizesFit y ≡ true → Low y
+pub fitted-low : (y : Sizes) → y ≡ fitted (countsOf y) (y .ports) → sizesFit largest (countsOf y) (y .ports) ≡ true → Low y
 fitted-low y is e =
     let l = and-eq-true-iff (countsFit largest (countsOf y)) (leb (y .ports) (largest .mostPorts)) .0 e in
     let c = fits-within largest (countsOf y) (l .0) in
@@ -55,6 +55,21 @@ fitted-low y is e =
       targets = omega (arith, c .targets);
       pairs = omega (arith, c .pairs);
     }
+
+-- the width tells the version
+pub narrow-first : (y : Sizes) → y ≡ fitted (countsOf y) (y .ports) → y .width ≡ form1 .width → formatFor y ≡ form1
+narrow-first y is w = same-width (sizes-version (countsOf y) (y .ports)) version1 (sym (ap (λ (z : Sizes). z .width) is) ∙ w)
+
+pub wide-second : (y : Sizes) → y ≡ fitted (countsOf y) (y .ports) → (y .width ≡ form1 .width → ⊥) → formatFor y ≡ form2
+wide-second y is n = go (sizes-version (countsOf y) (y .ports) .one)
+  where
+    go : (formatFor y ≡ form1) ⊎ (formatFor y ≡ form2) → formatFor y ≡ form2
+    go (inl e) = absurd (n (ap (λ (z : Sizes). z .width) is ∙ ap (λ (f : Format). f .width) e))
+    go (inr e) = e
+
+-- a result that fits version 1 is within all limits
+pub narrow-fits : (y : Sizes) → y ≡ fitted (countsOf y) (y .ports) → y .width ≡ form1 .width → sizesFit largest (countsOf y) (y .ports) ≡ true
+narrow-fits y is w = first-within (countsOf y) (y .ports) (narrow-first y is w)
 
 -- the bytes of its form
 pub form-long : (y : Sizes) → y ≡ fitted (countsOf y) (y .ports)
@@ -144,14 +159,14 @@ module _ (x : Next) (y : Sizes) (is : y ≡ sizesOf (fitting (x .graph)) (x .gra
   bytes-are : length (encode (fitting (x .graph)) (x .graph)) ≡ formBytes (formatFor y) (countsOf y) (y .ports)
   bytes-are = length-encode (fitting (x .graph)) (x .graph) ∙ ap (λ (z : Sizes). formBytes (formatFor z) (countsOf z) (z .ports)) (sym is)
 
-  limits-are : graph.withinLimits largest (x .graph) ≡ sizesFit y
-  limits-are = sym (ap sizesFit is)
+  limits-are : graph.withinLimits largest (x .graph) ≡ sizesFit largest (countsOf y) (y .ports)
+  limits-are = sym (ap (λ (z : Sizes). sizesFit largest (countsOf z) (z .ports)) is)
 
   pub result-refused : (r : answer.Refusal) → resultSize y room ≡ refused r → made room x ≡ refused r
   unfolding resultSize _else_ _>>_
-  result-refused r e = look (sizesFit y) (leb (formBytes (formatFor y) (countsOf y) (y .ports)) room) refl refl e
+  result-refused r e = look (sizesFit largest (countsOf y) (y .ports)) (leb (formBytes (formatFor y) (countsOf y) (y .ports)) room) refl refl e
     where
-      look : (a c : Bool) → sizesFit y ≡ a → leb (formBytes (formatFor y) (countsOf y) (y .ports)) room ≡ c
+      look : (a c : Bool) → sizesFit largest (countsOf y) (y .ports) ≡ a → leb (formBytes (formatFor y) (countsOf y) (y .ports)) room ≡ c
           → ((a else 9) >> ((c else 10) >> answered (formBytes (formatFor y) (countsOf y) (y .ports)))) ≡ refused r → made room x ≡ refused r
       look true true p q h = absurd (never (sym h))
       look true false p q h = made-10 room x (limits-are ∙ p) (rw bytes-are (leb-false _ _ q)) ∙ ap refused (same-refusal h)
@@ -160,7 +175,7 @@ module _ (x : Next) (y : Sizes) (is : y ≡ sizesOf (fitting (x .graph)) (x .gra
   pub result-fits : (n : ℕ) → resultSize y room ≡ answered n → Fits x y room n
   unfolding resultSize
   result-fits n e =
-      let p = passed (sizesFit y) 9 _ e in
+      let p = passed (sizesFit largest (countsOf y) (y .ports)) 9 _ e in
       let q = passed (leb (formBytes (formatFor y) (countsOf y) (y .ports)) room) 10 _ (p .1) in
       let long = sym (same-answer (q .1)) in
       let enough = leb-true _ _ (q .0) in

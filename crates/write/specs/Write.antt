@@ -3,13 +3,12 @@
 use Prim.Native.Nat.{ℕ, _+_, _*_, _≤_}
 use mathlib.Core.List.{List}
 use mathlib.Core.Path.{_≡_}
-use mathlib.Core.Bool.{Bool, _&&_}
 use lib.Dec.{leb}
 use lib.ListN.{length}
 use lib.Seq.{sets}
 use Rattle.le.specs.Rows.{Holds, puts}
 use Rattle.le.specs.declared.Row.{Row}
-use Rattle.graph.specs.Graph.{Counts, Format, largest, countsFit}
+use Rattle.graph.specs.Graph.{Counts, Format, largest, sizesFit}
 use Rattle.graph.specs.Form.{header, formBytes}
 use Rattle.graph.specs.Answer.{Answer, answered, _else_, _>>_}
 use Rattle.graph.specs.Versions.{fittingSizes}
@@ -28,14 +27,10 @@ formatFor y = fittingSizes (countsOf y) (y .ports)
 abbrev pub fitted : Counts → ℕ → Sizes
 fitted c ports = sized (fittingSizes c ports .width) c ports
 
--- no count and no port sum is above the largest limit
-abbrev pub sizesFit : Sizes → Bool
-sizesFit y = countsFit largest (countsOf y) && leb (y .ports) (largest .mostPorts)
-
 -- a result of these sizes: 9 it passes a limit, 10 its form is longer than the room; else the bytes of its form
 unfoldable pub resultSize : Sizes → ℕ → Answer ℕ
 resultSize y room = do
-  sizesFit y else 9
+  sizesFit largest (countsOf y) (y .ports) else 9
   leb (formBytes (formatFor y) (countsOf y) (y .ports)) room else 10
   answered (formBytes (formatFor y) (countsOf y) (y .ports))
 

@@ -8,9 +8,10 @@ ghost use lib.Seq.{sets};
 ghost use Rattle.le.specs.Le.{bytes};
 ghost use Rattle.le.specs.Rows.{Holds, rowAt, puts};
 ghost use Rattle.graph.specs.Lists.{range};
+ghost use Rattle.graph.specs.Graph.{largest, sizesFit};
 ghost use Rattle.graph.specs.Form.{mark};
 ghost use Rattle.form.specs.Form.{countsOf, numbered, Low, bodySize};
-ghost use Rattle.write.specs.Write.{countedAs, fitted, sizesFit, resultSize, headed};
+ghost use Rattle.write.specs.Write.{countedAs, formatFor, fitted, resultSize, headed};
 use form::Refusal;
 use form::Sizes;
 use form::Step;
@@ -27,8 +28,17 @@ pub fn sized(
 ) -> Sizes
     ensures { λ y. ⌜ y ≡ fitted (countedAs nodes edges sources targets pairs) ports ⌝ }
 {
+    let counted = Sizes {
+        width: 0,
+        nodes,
+        edges,
+        ports,
+        sources,
+        targets,
+        pairs,
+    };
     Sizes {
-        width: form::form1().width,
+        width: form::fitting_width(counted),
         nodes,
         edges,
         ports,
@@ -38,26 +48,15 @@ pub fn sized(
     }
 }
 
-// Whether no count and no port sum is above the largest limit.
-fn sizes_fit(y: Sizes) -> bool
-    ensures { λ r. ⌜ r ≡ sizesFit y ⌝ }
+// Whether no count and no port sum is above the largest limit: none is in a graph that fits version 1.
+fn within_limits(y: Sizes) -> bool
+    requires { ⌜ y ≡ fitted (countsOf y) (y .ports) ⌝ }
+    ensures { λ r. ⌜ r ≡ sizesFit largest (countsOf y) (y .ports) ⌝ }
 {
-    if graph::MAX_NODES < y.nodes {
-        return false;
+    if y.width == form::form1().width {
+        return true;
     }
-    if graph::MAX_EDGES < y.edges {
-        return false;
-    }
-    if graph::MAX_SOURCES < y.sources {
-        return false;
-    }
-    if graph::MAX_TARGETS < y.targets {
-        return false;
-    }
-    if graph::MAX_PAIRS < y.pairs {
-        return false;
-    }
-    y.ports <= graph::MAX_PORTS
+    form::sizes_fit(form::form2(), y)
 }
 
 // The bytes of a form of these sizes.
@@ -75,7 +74,7 @@ pub fn result_size(y: Sizes, room: usize) -> Step
     requires { ⌜ y ≡ fitted (countsOf y) (y .ports) ⌝ }
     ensures { λ r. ⌜ r ≡ numbered (resultSize y room) ⌝ }
 {
-    if !sizes_fit(y) {
+    if !within_limits(y) {
         return Step::Refused(Refusal { no: 9 });
     }
     let bytes = form_bytes(y);
@@ -94,6 +93,18 @@ fn put_mark(out: &mut [u8], version: usize)
     out[1] = 72;
     out[2] = 71;
     le::put2(out, 3, version as u32);
+}
+
+// The number of the version in which a graph of these sizes is stored.
+fn version_of(y: Sizes) -> usize
+    requires { ⌜ y ≡ fitted (countsOf y) (y .ports) ⌝ }
+    ensures { λ r. ⌜ r ≡ formatFor y .version ⌝ }
+{
+    if y.width == form::form1().width {
+        form::form1().version
+    } else {
+        form::form2().version
+    }
 }
 
 // Two numbers of a row, one after the other.
@@ -134,6 +145,6 @@ pub fn put_header(out: &mut [u8], y: Sizes)
     requires { ⌜ Low y × (y ≡ fitted (countsOf y) (y .ports)) × (5 + 5 * y .width ≤ length (now out)) ⌝ }
     ensures { λ _. ⌜ now (out .exit) ≡ headed (now (out .entry)) y ⌝ }
 {
-    put_mark(out, form::form1().version);
+    put_mark(out, version_of(y));
     put_counts(out, y);
 }

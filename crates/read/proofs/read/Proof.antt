@@ -8,8 +8,8 @@ use Rattle.form.specs.Form.{meant, reading, refusalIn}
 use Rattle.form.specs.declared.Format.{Format}
 use Rattle.form.specs.declared.Reading.the-variants.{Refused}
 use Rattle.graph.specs.Answer.{answered}
-use Rattle.graph.specs.Read.{readVersion, readIn}
-use Rattle.graph.specs.Versions.{formatNumbered, read}
+use Rattle.graph.specs.Read.{readVersion}
+use Rattle.graph.specs.Versions.{formatNumbered, readFitting, read}
 use Rattle.form.proofs.Answers.{number-refused, number-answered}
 use Rattle.graph.proofs.Steps.{stops, goes}
 use Rattle.graph.proofs.Versions.{version-known}
@@ -39,8 +39,15 @@ returns c =
     let r = c .before .before .before .read-version in
     ap Refused (c .refusal .ensures ∙ ap refusalIn (x .1)) ∙ sym (ap reading (stops _ (number-refused _ (r .result) (r .ensures) (x .0 .0) (x .1))))
 
-read-in-requires : tie.Need-read-in-requires
-read-in-requires c κs = version-known _ _ (versioned-so (c .before)) .0 .usable
+-- the version has the number that was read
+same-number : (c : tie.After-f) → formatNumbered (format c .version) ≡ answered (meant (format c))
+same-number c = let known = version-known _ _ (versioned-so c) in known .0 .found
+
+read-fitting-requires : tie.Need-read-fitting-requires
+read-fitting-requires c κs =
+    let f = c .before in
+    let v = f .before .before .before .before in
+    (numbered-so v ∙ ap answered (sym (version-known _ _ (versioned-so f) .1)), same-number f)
 
 returns-2 : tie.Need-returns-2
 unfolding read
@@ -48,7 +55,7 @@ returns-2 c =
     let f = c .before .before in
     let v = f .before .before .before .before in
     let b = now (v .before .before .before .before .args .src) in
-    c .read-in .ensures ∙ measured-in (meant (format f)) (readIn (meant (format f)) b) ∙ sym (ap reading (goes _ (numbered-so v) ∙ goes _ (versioned-so f)))
+    c .read-fitting .ensures ∙ measured-in (meant (format f)) (readFitting (meant (format f)) b) ∙ sym (ap reading (goes _ (numbered-so v) ∙ goes _ (versioned-so f)))
 
 returns-3 : tie.Need-returns-3
 unfolding read
@@ -68,7 +75,7 @@ read-spec =
     returns
     (λ c κs. search needs)
     (λ c. search needs)
-    read-in-requires
+    read-fitting-requires
     (λ c. search needs)
     returns-2
     returns-3)

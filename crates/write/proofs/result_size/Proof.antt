@@ -11,22 +11,22 @@ use Rattle.write.proofs.result_size.Tie as tie
 
 returns : tie.Need-returns
 unfolding resultSize _else_ _>>_
-returns c = rw (sym (c .before .sizes-fit .ensures) ∙ not-true _ (c .if1 .taken))
+returns c = rw (sym (c .before .within-limits .ensures) ∙ not-true _ (c .if1 .taken))
 
 form-bytes-requires : tie.Need-form-bytes-requires
-form-bytes-requires c κs = fitted-low _ (c .before .before .pre) (sym (c .before .sizes-fit .ensures) ∙ not-false _ (c .if1 .left))
+form-bytes-requires c κs = fitted-low _ (c .before .before .pre) (sym (c .before .within-limits .ensures) ∙ not-false _ (c .if1 .left))
 
 returns-2 : tie.Need-returns-2
 unfolding resultSize _else_ _>>_
 returns-2 c =
-    let within = sym (c .before .before .before .sizes-fit .ensures) ∙ not-false _ (c .before .before .if1 .left) in
+    let within = sym (c .before .before .before .within-limits .ensures) ∙ not-false _ (c .before .before .if1 .left) in
     let long = c .before .form-bytes .ensures ∙ form-long _ (c .before .before .before .before .pre) in
     rw (within, ← long, lt-leb _ _ (c .if2 .taken))
 
 returns-3 : tie.Need-returns-3
 unfolding resultSize _else_ _>>_
 returns-3 c =
-    let within = sym (c .before .before .before .sizes-fit .ensures) ∙ not-false _ (c .before .before .if1 .left) in
+    let within = sym (c .before .before .before .within-limits .ensures) ∙ not-false _ (c .before .before .if1 .left) in
     let long = c .before .form-bytes .ensures ∙ form-long _ (c .before .before .before .before .pre) in
     rw (within, ← long, le-leb _ _ (c .if2 .left))
 

@@ -1,8 +1,8 @@
--- `read::counts_fit` meets its contract.
+-- `form::counts_fit` meets its contract.
 -- Assumes nothing.
 use borrow.Author.Tests.{le-leb, lt-leb}
-use Rattle.read.proofs.counts_fit.Statement.{statement}
-use Rattle.read.proofs.counts_fit.Tie as tie
+use Rattle.form.proofs.counts_fit.Statement.{statement}
+use Rattle.form.proofs.counts_fit.Tie as tie
 
 returns : tie.Need-returns
 returns c = rw (lt-leb _ _ (c .if1 .taken))

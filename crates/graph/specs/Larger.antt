@@ -1,0 +1,56 @@
+-- 02, T-05, by hand: forms of both versions, for what reading them and calls on them give.
+-- Assumes nothing.
+use Prim.Native.Nat.{ℕ}
+use mathlib.Core.List.{List, [], _∷_, _++_}
+use lib.ListN.{replicate}
+use Rattle.graph.specs.Graph.{Graph}
+use Rattle.graph.specs.Build.{empty, withInterface, withNodes}
+
+-- mark and version 2, and five counts of 4 bytes that are below 256
+abbrev pub head2 : ℕ → ℕ → ℕ → ℕ → ℕ → List ℕ
+head2 n e s t p =
+    79 ∷ 72 ∷ 71 ∷ 2 ∷ 0 ∷ n ∷ 0 ∷ 0 ∷ 0 ∷ e ∷ 0 ∷ 0 ∷ 0 ∷ s ∷ 0 ∷ 0 ∷ 0 ∷ t ∷ 0 ∷ 0 ∷ 0 ∷ p ∷ 0 ∷ 0 ∷ 0 ∷ []
+
+-- a form, and the number that refuses it
+pub record Broken : Type 0 where
+  pub form : List ℕ
+  pub no : ℕ
+
+infix 10 _by_
+abbrev pub _by_ : List ℕ → ℕ → Broken
+form by n = record { form = form; no = n }
+
+-- 14 bytes; another mark; versions 0, 3 and 256; a header of version 2 of 24 bytes; 16,385 nodes; one node and no label; 65,537 ports at the only edge;
+-- an id that is the node count; the empty graph, and one node, in version 2
+abbrev pub broken : List Broken
+broken =
+    (79 ∷ 72 ∷ 71 ∷ 2 ∷ 0 ∷ replicate 9 0 by 1)
+    ∷ (79 ∷ 72 ∷ 72 ∷ 2 ∷ 0 ∷ replicate 20 0 by 2)
+    ∷ (79 ∷ 72 ∷ 71 ∷ 0 ∷ 0 ∷ replicate 20 0 by 3)
+    ∷ (79 ∷ 72 ∷ 71 ∷ 3 ∷ 0 ∷ replicate 20 0 by 3)
+    ∷ (79 ∷ 72 ∷ 71 ∷ 0 ∷ 1 ∷ replicate 20 0 by 3)
+    ∷ (79 ∷ 72 ∷ 71 ∷ 2 ∷ 0 ∷ replicate 19 255 by 5)
+    ∷ (79 ∷ 72 ∷ 71 ∷ 2 ∷ 0 ∷ 1 ∷ 64 ∷ replicate 18 0 by 4)
+    ∷ (head2 1 0 0 0 0 by 5)
+    ∷ (head2 0 1 0 0 0 ++ (7 ∷ 0 ∷ 0 ∷ 0 ∷ 0 ∷ 0 ∷ 1 ∷ 0 ∷ 1 ∷ 0 ∷ 0 ∷ 0 ∷ []) by 4)
+    ∷ (head2 1 0 1 0 0 ++ (7 ∷ 0 ∷ 0 ∷ 0 ∷ 1 ∷ 0 ∷ 0 ∷ 0 ∷ []) by 6)
+    ∷ (head2 0 0 0 0 0 by 13)
+    ∷ (head2 1 0 0 0 0 ++ (7 ∷ 0 ∷ 0 ∷ 0 ∷ []) by 13)
+    ∷ []
+
+-- one node, 1,025 times a global source: the smallest drawing that outgrows version 1
+abbrev pub wide : Graph
+wide = withInterface (replicate 1025 0) [] (withNodes (7 ∷ []) empty)
+
+-- its form: 1,025 is 1 + 4 * 256
+abbrev pub wideForm : List ℕ
+wideForm =
+    79 ∷ 72 ∷ 71 ∷ 2 ∷ 0 ∷ 1 ∷ 0 ∷ 0 ∷ 0 ∷ 0 ∷ 0 ∷ 0 ∷ 0 ∷ 1 ∷ 4 ∷ replicate 10 0 ++ (7 ∷ 0 ∷ 0 ∷ 0 ∷ replicate 4100 0)
+
+-- 2,048 nodes of label 0, which is the most of version 1
+abbrev pub full1 : List ℕ
+full1 = 79 ∷ 72 ∷ 71 ∷ 1 ∷ 0 ∷ 0 ∷ 8 ∷ replicate 8200 0
+
+-- the same nodes and one of label 9, in version 2
+abbrev pub full1And9 : List ℕ
+full1And9 = 79 ∷ 72 ∷ 71 ∷ 2 ∷ 0 ∷ 1 ∷ 8 ∷ replicate 8210 0 ++ (9 ∷ 0 ∷ 0 ∷ 0 ∷ [])
