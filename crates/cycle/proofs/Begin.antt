@@ -11,19 +11,19 @@ use native.Mathlib.Omega.{arith}
 use lib.Dec.{T, eqb}
 use lib.ListN.{length, getD, take, length-append, length-map}
 use lib.Seq.{getD-take, length-take-le}
-use borrow.Author.Tests.{eq-eqb, ne-eqb}
+use borrow.Author.Tests.{eqb-true, eqb-false, eq-eqb, ne-eqb}
 use Rattle.queue.specs.Keys.{radix}
 use Rattle.graph.specs.Graph.{Edge, Graph, Proper, edgeEntries, ports}
 use Rattle.choice.specs.Arcs.{Arc, In, bump, Set, Stable, has, vertices, into, out}
 use Rattle.choice.specs.Choice.{Chosen, choice}
 use Rattle.choice.specs.Drawing.{edgeArcs, arcsFrom, arcs, vertexCount, chosen, noLoop}
 use Rattle.choice.specs.Promises.{Bounded, Offers}
-use Rattle.choice.proofs.Degrees.{howMany-length}
-use Rattle.choice.proofs.Fits.{proper-bounded, proper-offers}
+use Rattle.choice.proofs.Degrees.{both-degrees}
+use Rattle.choice.proofs.Fits.{fits-apart, proper-fits, proper-bounded, proper-offers}
 use Rattle.choice.proofs.Graphs.{chosen-empty-iff-no-cycle, no-loop-iff-no-cycle}
 use Rattle.choice.proofs.Sets.{size-vertices, has-lt, and-left}
 use Rattle.choice.proofs.Cycles.{stable-cycle}
-use Rattle.halves.specs.Halves.{vertex, times, waits, within, Halves, Listed, Between, Going, Seeding, seedTo, peelFrom}
+use Rattle.halves.specs.Halves.{vertex, mate, times, waits, within, Halves, Listed, Between, Going, Seeding, seedTo, peelFrom}
 use Rattle.halves.proofs.Leaving.{bump-true, nil-times, all-live}
 use Rattle.halves.proofs.Lists.{count-cons}
 use Rattle.halves.proofs.Sums.{bump-plus}
@@ -57,6 +57,24 @@ in-waits y (x ∷ q) m =
     ⊎-elim (λ e. omega (arith, count-cons p x q, ap (λ (t : Bool). bump t (waits (vertex y) q)) (eq-eqb (vertex x) (vertex y) (ap vertex (sym e)))))
     (λ k. omega (arith, count-cons p x q, in-waits y q k, bump-plus (p x) (waits (vertex y) q))) (List·Memᴰ·cases-cons m)
 
+-- the two halves of a vertex are its arcs in and its arcs out
+within-both : (arcs : List Arc) (S : Set) (y : ℕ) → within arcs S y + within arcs S (mate y) ≡ into arcs S (vertex y) + out arcs S (vertex y)
+unfolding within
+within-both arcs S y = go (eqb (y % 2) 0) refl
+  where
+    go : (t : Bool) → eqb (y % 2) 0 ≡ t
+        → cond (eqb (y % 2) 0) (into arcs S (vertex y)) (out arcs S (vertex y)) + cond (eqb (mate y % 2) 0) (into arcs S (vertex (mate y))) (out arcs S (vertex (mate y)))
+        ≡ into arcs S (vertex y) + out arcs S (vertex y)
+    go true e =
+        let even = eqb-true (y % 2) 0 e in
+        let same : vertex (mate y) ≡ vertex y = omega arith in
+        rw (e, ne-eqb (mate y % 2) 0 (λ q. omega arith), same)
+    go false e =
+        let odd = eqb-false (y % 2) 0 e in
+        let one : y % 2 ≡ 1 = omega arith in
+        let same : vertex (mate y) ≡ vertex y = omega arith in
+        rw (e, eq-eqb (mate y % 2) 0 (omega arith), same) (omega arith)
+
 module _ (s : Source) (g : Graph) (proper : Proper g) (nodes n : ℕ) (nodes-is : nodes ≡ length (g .labels)) (n-is : n ≡ vertexCount g)
     (few-nodes : nodes ≤ mostNodes) (few : n ≤ mostVertices) (few-ports : ports g ≤ mostPorts) where
   abbrev P : List Arc
@@ -68,16 +86,12 @@ module _ (s : Source) (g : Graph) (proper : Proper g) (nodes n : ℕ) (nodes-is 
   pub offers : Offers (arcs g) (may nodes)
   offers = subst (λ (k : ℕ). Offers (arcs g) (may k)) (sym nodes-is) (proper-offers g proper)
 
-  few-within : (S : Set) (y : ℕ) → within (arcs g) S y ≤ mostPorts
-  unfolding within into out arcs
-  few-within S y = go (eqb (y % 2) 0)
-    where
-      l : length (arcsFrom (length (g .labels)) (g .edges)) ≤ mostPorts
-      l = omega (arith, length-arcs (length (g .labels)) (g .edges))
-
-      go : (t : Bool) → cond t (into (arcs g) S (y / 2)) (out (arcs g) S (y / 2)) ≤ mostPorts
-      go true = omega (arith, l, howMany-length (λ a. eqb (a .to) (y / 2) && has S (a .from)) (arcsFrom (length (g .labels)) (g .edges)))
-      go false = omega (arith, l, howMany-length (λ a. eqb (a .from) (y / 2) && has S (a .to)) (arcsFrom (length (g .labels)) (g .edges)))
+  -- both halves of a vertex have no more arcs than there are ports
+  few-within : (S : Set) (y : ℕ) → within (arcs g) S y + within (arcs g) S (mate y) ≤ mostPorts
+  few-within S y =
+      let own = both-degrees (arcs g) S (vertex y) (fits-apart (length (g .labels)) (length (g .edges)) (arcs g) (proper-fits g proper)) in
+      let many : length (arcs g) ≡ ports g = unfold arcs in length-arcs (length (g .labels)) (g .edges) in
+      omega (arith, within-both (arcs g) S y, own, many)
 
   module _ (W X Y : List ℕ) (long : pickedAt ≤ length W) (built : Built s g W) (mid end : ℕ) (seeds : Went W X n mid (seedTo n (halvesIn W n 0))) where
     lists-W : (y : ℕ) → y < 2 * n → listIn s W nodes y ≡ neighbours (arcs g) y
@@ -155,11 +169,24 @@ module _ (s : Source) (g : Graph) (proper : Proper g) (nodes n : ℕ) (nodes-is 
             degrees : halvesIn Y n end .degrees ≡ take (2 * n) Y
             degrees = unfold halvesIn in refl
 
+            -- a live half has the arcs within what is left
+            right : (z : ℕ) → 0 < getD (take (2 * n) Y) z 0 → getD (take (2 * n) Y) z 0 ≡ within (arcs g) (k .0) z
+            right z p =
+                let r = subst (λ (d : List ℕ). 0 < getD d z 0 → getD d z 0 ≡ within (arcs g) (k .0) z + times z []) degrees (going .ready .state .right z) p in
+                omega (arith, r, nil-times z)
+
+            -- and so has its mate, which has gone only if both have
             go : (getD (take (2 * n) Y) y 0 ≡ 0) ⊎ (0 < getD (take (2 * n) Y) y 0) → getD (take (2 * n) Y) y 0 < radix
             go (inl z) = omega arith
-            go (inr p) =
-                let r = subst (λ (d : List ℕ). 0 < getD d y 0 → getD d y 0 ≡ within (arcs g) (k .0) y + times y []) degrees (going .ready .state .right y) p in
-                omega (arith, r, few-within (k .0) y, nil-times y)
+            go (inr p) = beside (eq-zero-or-pos (getD (take (2 * n) Y) (mate y) 0))
+              where
+                beside : (getD (take (2 * n) Y) (mate y) 0 ≡ 0) ⊎ (0 < getD (take (2 * n) Y) (mate y) 0) → getD (take (2 * n) Y) y 0 < radix
+                beside (inl z) =
+                    let gone = subst (λ (d : List ℕ). getD d (mate y) 0 ≡ 0 → getD d (mate (mate y)) 0 ≡ 0) degrees (going .ready .state .paired (mate y)) z in
+                    let twice : mate (mate y) ≡ y = omega arith in
+                    let none : getD (take (2 * n) Y) y 0 ≡ 0 = subst (λ (x : ℕ). getD (take (2 * n) Y) x 0 ≡ 0) twice gone in
+                    absurd (omega (arith, p, none))
+                beside (inr q) = omega (arith, right y p, right (mate y) q, few-within (k .0) y, q)
 
   -- ---- the answers
 

@@ -149,7 +149,7 @@ module _ {b : List ℕ} {z : Sizes} (st : Stored b z) (i k : ℕ) (inside : i < 
     all : sumTo size (2 * z .nodes) ≤ mostPorts
     all = omega (arith, room-for-all (graphOf b) (facts st .known), facts st .few-ports, ap (λ (n : ℕ). sumTo size (2 * n)) n-is)
 
-    fits : 2 * z .nodes ≤ listsAt
+    fits : 2 * z .nodes ≤ 2 * mostVertices
     fits = omega (arith, n-is, facts st .few-nodes)
 
     adds : (y : ℕ) → y < 2 * z .nodes → M y ++ replicate (times y B) (t + 1) ≡ neighbours (arcsTo (graphOf b) (i + 1)) y

@@ -19,7 +19,7 @@ use Rattle.choice.specs.Arcs.{In, bump, howMany}
 use Rattle.halves.specs.Halves.{times, sumTo}
 use Rattle.halves.proofs.Sums.{sum-apart, bump-plus}
 use Rattle.halves.proofs.Lists.{count-append, count-one}
-use Rattle.tables.specs.Tables.{mostPorts, listsAt, entriesAt, pickedAt}
+use Rattle.tables.specs.Tables.{mostVertices, mostPorts, listsAt, entriesAt, pickedAt}
 use Rattle.removal.specs.Room.{part, startOf, countOf, roomList}
 use Rattle.removal.proofs.Tables.{part-ext, part-snoc}
 use Rattle.removal.proofs.Walks.{in-getD, in-take}
@@ -57,7 +57,7 @@ filling-start W k L none empty = record {
 
 -- ---- where the lists lie: the room of k lists, each of its size, and all of them in the table
 
-module _ (W : List ℕ) (k : ℕ) (size : ℕ → ℕ) (begin : (y : ℕ) → y < k → startOf W y ≡ sumTo size y) (all : sumTo size k ≤ mostPorts) (fits : k ≤ listsAt) (long : pickedAt ≤ length W) where
+module _ (W : List ℕ) (k : ℕ) (size : ℕ → ℕ) (begin : (y : ℕ) → y < k → startOf W y ≡ sumTo size y) (all : sumTo size k ≤ mostPorts) (fits : k ≤ 2 * mostVertices) (long : pickedAt ≤ length W) where
   module _ (X : List ℕ) (L : ℕ → List ℕ) (f : ListsFilled W X k L) (y t : ℕ) (low : y < k) (space : length (L y) < size y) where
     abbrev place : ℕ
     place = startOf X y + countOf X y

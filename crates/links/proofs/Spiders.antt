@@ -1,9 +1,9 @@
 -- The rows of the spiders: one side after the other, one node after the other.
 -- Assumes nothing.
-use mathlib.Core.Bool.{Bool, true, false}
+use mathlib.Core.Bool.{Bool, true, false, not}
 use mathlib.Core.List.{List, [], _∷_, _++_, append-assoc, append-nil}
 use mathlib.Core.Path.{_≡_, refl, ap, _∙_, subst}
-use Prim.Native.Nat.{ℕ, _+_, _*_, _-_, _≤_, _<_}
+use Prim.Native.Nat.{ℕ, zero, suc, _+_, _*_, _-_, _≤_, _<_}
 use native.Mathlib.Omega.{arith}
 use lib.Dec.{eqb}
 use lib.ListN.{length, length-append}
@@ -12,7 +12,7 @@ use Rattle.graph.specs.Lists.{keep, joined, range}
 use Rattle.le.specs.Rows.{puts}
 use Rattle.le.specs.declared.Row.{Row}
 use Rattle.write.specs.Write.{Put}
-use Rattle.links.specs.Links.{isListed, itself, spiderRow, bothRows, spidersOf, spiders}
+use Rattle.links.specs.Links.{isListed, Chain, itself, spiderRow, bothRows, spidersOf, spiders}
 use Rattle.graph.proofs.Laws.{joined-append}
 use Rattle.graph.proofs.Lists.{range-add}
 use Rattle.graph.proofs.Spiders.{keep-append}
@@ -30,12 +30,41 @@ pub at-most-one : (here : Bool) → boolByte here ≤ 1
 at-most-one true = omega arith
 at-most-one false = omega arith
 
+-- the one thing on the first side, the other on the second
+abbrev pub onSide : {T : Type 0} → ℕ → T → T → T
+onSide zero x y = x
+onSide (suc half) x y = y
+
+-- what stands on one side, and what stands on the sides before it
+abbrev pub oneSide : Bool → ℕ → List ℕ → List ℕ → ℕ → List ℕ
+oneSide first id a b half = itself (onSide half first (not first)) id ++ onSide half a b
+
+abbrev pub sidesBefore : Bool → ℕ → List ℕ → List ℕ → ℕ → List ℕ
+sidesBefore first id a b zero = []
+sidesBefore first id a b (suc half) = sidesBefore first id a b half ++ oneSide first id a b half
+
+pub side-room : (first : Bool) (id : ℕ) (a b : List ℕ) (half : ℕ) → half < 2
+    → length (sidesBefore first id a b half) + length (oneSide first id a b half) ≤ length (sidesBefore first id a b 2)
+side-room first id a b zero l = omega (arith, length-append (oneSide first id a b 0) (oneSide first id a b 1))
+side-room first id a b (suc zero) l = omega (arith, length-append (oneSide first id a b 0) (oneSide first id a b 1))
+side-room first id a b (suc (suc half)) l = absurd (omega arith)
+
+pub side-length : (half : ℕ) {n m : ℕ} (a b : List ℕ) → n ≡ length a → m ≡ length b → onSide half n m ≡ length (onSide half a b)
+side-length zero a b e f = e
+side-length (suc half) a b e f = f
+
+pub side-chain : {nodes : ℕ} {room : List ℕ} {head tail : ℕ} {a b : List ℕ} (half : ℕ) → half < 2 → tail ≡ head + 1 → Chain nodes room head a → Chain nodes room tail b
+    → Chain nodes room (head + half) (onSide half a b)
+side-chain {nodes} {room} {head} {tail} {a} {b} zero l e h k = subst (λ (i : ℕ). Chain nodes room i a) (omega arith) h
+side-chain {nodes} {room} {head} {tail} {a} {b} (suc zero) l e h k = subst (λ (i : ℕ). Chain nodes room i b) e k
+side-chain (suc (suc half)) l e h k = absurd (omega arith)
+
 -- the two counts, and the two sides
-pub row-done : {old o₁ o₂ o₃ : List ℕ} {r : Row} {k n m : ℕ} {X Y : List ℕ} (c d : ℕ) → c ≡ length X → d ≡ length Y → o₁ ≡ puts old r k (c ∷ d ∷ []) → Put o₁ r (k + 2) X o₂ n → Put o₂ r n Y o₃ m
-    → Put old r k (length X ∷ length Y ∷ (X ++ Y)) o₃ m
-row-done {old} {o₁} {o₂} {o₃} {r} {k} {n} {m} {X} {Y} c d e f h p q =
-    subst (λ (c : ℕ). Put old r k (c ∷ length Y ∷ (X ++ Y)) o₃ m) e
-    (subst (λ (d : ℕ). Put old r k (c ∷ d ∷ (X ++ Y)) o₃ m) f (put-then (record { stored = h; next = refl }) (put-then p q)))
+pub row-done : {old mid new : List ℕ} {r : Row} {k m : ℕ} (X Y : List ℕ) (c d : ℕ) → c ≡ length X → d ≡ length Y → mid ≡ puts old r k (c ∷ d ∷ []) → Put mid r (k + 2) (X ++ Y) new m
+    → Put old r k (length X ∷ length Y ∷ (X ++ Y)) new m
+row-done {old} {mid} {new} {r} {k} {m} X Y c d e f h p =
+    subst (λ (c : ℕ). Put old r k (c ∷ length Y ∷ (X ++ Y)) new m) e
+    (subst (λ (d : ℕ). Put old r k (c ∷ d ∷ (X ++ Y)) new m) f (put-then (record { stored = h; next = refl }) p))
 
 -- ---- one side more, and one node more
 

@@ -192,7 +192,8 @@ fn put_side(
     end
 }
 
-// A spider of a node into a row, from its entries of this kind to those of the next: the node itself stands before the first or before the second. Answered is the next index.
+// A spider of a node into a row, from its entries of this kind to those of the next: the node itself stands before the first or before the second.
+// Both sides are written by a call of `put_side` from one place, so that the compiler inlines it. Answered is the next index.
 fn put_chains(
     room: &[u8],
     nodes: usize,
@@ -213,8 +214,15 @@ fn put_chains(
     let b = chain_length(room, nodes, tail);
     let second = !first;
     write::put_two(out, r, k, a + (first as usize), b + (second as usize));
-    let middle = put_side(room, nodes, head, a, id, first, out, r, k + 2);
-    put_side(room, nodes, tail, b, id, second, out, r, middle)
+    let mut n = a;
+    let mut here = first;
+    let mut next = k + 2;
+    for half in 0..2 {
+        next = put_side(room, nodes, head + half, n, id, here, out, r, next);
+        n = b;
+        here = second;
+    }
+    next
 }
 
 // The two spiders of a node into a row, if it is listed: side 0 from its global sources to its edge sources, side 1 from its edge targets to its global targets.

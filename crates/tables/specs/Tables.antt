@@ -13,25 +13,29 @@ mostVertices = largest .most .nodes + largest .most .edges
 abbrev pub mostPorts : ℕ
 mostPorts = largest .mostPorts
 
+-- the words between two tables
+abbrev pub gap : ℕ
+gap = 688
+
 -- the degrees stand first; then the start and the length of each half's list
 abbrev pub listsAt : ℕ
-listsAt = 2 * mostVertices
+listsAt = 2 * mostVertices + gap
 
 -- the entries of the nodes' lists
 abbrev pub entriesAt : ℕ
-entriesAt = listsAt + 4 * mostVertices
+entriesAt = listsAt + 4 * mostVertices + gap
 
 -- the halves that wait or have waited
 abbrev pub waitingAt : ℕ
-waitingAt = entriesAt + mostPorts
+waitingAt = entriesAt + mostPorts + gap
 
 -- the flags of the chosen nodes
 abbrev pub pickedAt : ℕ
-pickedAt = waitingAt + mostVertices + 4
+pickedAt = waitingAt + mostVertices + gap
 
 -- the queue
 abbrev pub queueAt : ℕ
-queueAt = pickedAt + mostNodes
+queueAt = pickedAt + mostNodes + gap
 
 -- the bytes of room up to the end of the waiting list, and up to that of the queue
 abbrev pub roomRemoval : ℕ
