@@ -16,8 +16,7 @@ use Rattle.choice.specs.Calls.{cycleBreakingNodesCall, noLoopCall}
 use Rattle.choice.proofs.Graphs.{chosen-and-free-are-all}
 use Rattle.choice.proofs.Stored.{cycle-breaking-nodes-answer, no-loop-answer, cycle-breaking-nodes-listed, no-loop-listed}
 use Rattle.graph.proofs.Answers.{FormOf, Keeps, on-graph-answer, on-nothing-answer, read-answer, delete-nodes-answer, once-fed-answer, worked, rewrite-kept, empty-kept, discrete-kept, identity-kept, singleton-kept, new-node-kept, new-edge-kept, new-operation-kept, unify-kept, add-source-kept, add-target-kept, delete-edges-kept, spiderize-kept, spiderize-all-kept}
-use Rattle.graph.proofs.Refusals.{Listed, on-graph-listed, on-nothing-listed, work-listed, read-listed, rewrite-listed, empty-listed, discrete-listed, identity-listed, singleton-listed, new-node-listed, new-edge-listed, new-operation-listed, unify-listed, add-source-listed, add-target-listed, delete-edges-listed, spiderize-listed, spiderize-all-listed, delete-nodes-call-listed, once-fed-listed}
-use Rattle.graph.proofs.Reading.{refused-by}
+use Rattle.graph.proofs.Refusals.{Listed, refused-in, on-graph-listed, on-nothing-listed, work-listed, read-listed, rewrite-listed, empty-listed, discrete-listed, identity-listed, singleton-listed, new-node-listed, new-edge-listed, new-operation-listed, unify-listed, add-source-listed, add-target-listed, delete-edges-listed, spiderize-listed, spiderize-all-listed, delete-nodes-call-listed, once-fed-listed}
 use Rattle.graph.proofs.Steps.{same-answer, came}
 use Rattle.graph.proofs.Versions.{read-sound, longest}
 use Rattle.ohg.specs.Packed.{Ranged}
@@ -34,7 +33,7 @@ id-of e = ap (λ (k : Next). k .id) (same-answer e)
 
 form-short : {room : ℕ} {g : Graph} {bytes : List ℕ} → FormOf room g bytes → length bytes < 2 ^ 24
 form-short {room} {g} {bytes} h =
-    let l : length bytes ≤ 49167 = subst (λ (b : List ℕ). length b ≤ 49167) (h .written) (longest g (h .formed)) in
+    let l : length bytes ≤ 655385 = subst (λ (b : List ℕ). length b ≤ 655385) (h .written) (longest g (h .formed)) in
     omega arith
 
 -- a written form with an id beside it
@@ -51,7 +50,7 @@ module _ (b : List ℕ) (t : Below 256 b) (room : ℕ) where
   graph-ranged : (step : Format → Graph → Answer Next) → ((f : Format) → Keeps (step f)) → ((f : Format) (g : Graph) → Listed (step f g)) → Small step
       → Ranged (onGraph b room step)
   graph-ranged step keeps listed small = record {
-    no = λ r e. refused-by (on-graph-listed b room step listed) e;
+    no = λ r e. refused-in (on-graph-listed b room step listed) e;
     numbers = λ m e.
         let h = on-graph-answer b room step m t keeps e in
         let s = h .0 in
@@ -61,7 +60,7 @@ module _ (b : List ℕ) (t : Below 256 b) (room : ℕ) where
 
   pub read-ranged : Ranged (readCall b room)
   read-ranged = record {
-    no = λ r e. refused-by (read-listed b room) e;
+    no = λ r e. refused-in (read-listed b room) e;
     numbers = λ m e. writes (read-answer b room m e .2) (omega arith) (omega arith);
   }
 
@@ -116,7 +115,7 @@ module _ (b : List ℕ) (t : Below 256 b) (room : ℕ) where
 
   work-ranged : (needed lent : ℕ) (a : Answer Result) → Listed a → ((m : Result) → a ≡ answered m → (m .a < 2 ^ 24) × (m .b < 2 ^ 32)) → Ranged (inWorkRoom needed lent a)
   work-ranged needed lent a l h = record {
-    no = λ r e. refused-by (work-listed needed lent a l) e;
+    no = λ r e. refused-in (work-listed needed lent a l) e;
     numbers = λ m e. h m (worked needed lent a e);
   }
 
@@ -148,7 +147,7 @@ module _ (b : List ℕ) (t : Below 256 b) (room : ℕ) where
 
   pub delete-nodes-ranged : (gone : List ℕ) (mapRoom workRoom : ℕ) → Ranged (deleteNodesCall b gone room mapRoom workRoom)
   delete-nodes-ranged gone mapRoom workRoom = record {
-    no = λ r e. refused-by (delete-nodes-call-listed b gone room mapRoom workRoom) e;
+    no = λ r e. refused-in (delete-nodes-call-listed b gone room mapRoom workRoom) e;
     numbers = λ m e.
         let h = delete-nodes-answer b gone room mapRoom workRoom m t e in
         let s = h .0 in
@@ -159,7 +158,7 @@ module _ (b : List ℕ) (t : Below 256 b) (room : ℕ) where
 
   pub cycle-breaking-nodes-ranged : (workRoom : ℕ) → Ranged (cycleBreakingNodesCall b room workRoom)
   cycle-breaking-nodes-ranged workRoom = record {
-    no = λ r e. refused-by (cycle-breaking-nodes-listed b room workRoom) e;
+    no = λ r e. refused-in (cycle-breaking-nodes-listed b room workRoom) e;
     numbers = λ m e.
         let h = cycle-breaking-nodes-answer b t room workRoom m e in
         let s = h .0 in
@@ -173,13 +172,13 @@ module _ (b : List ℕ) (t : Below 256 b) (room : ℕ) where
 
 pub no-loop-ranged : (b : List ℕ) → Below 256 b → (workRoom : ℕ) → Ranged (noLoopCall b workRoom)
 no-loop-ranged b t workRoom = record {
-  no = λ r e. refused-by (no-loop-listed b workRoom) e;
+  no = λ r e. refused-in (no-loop-listed b workRoom) e;
   numbers = λ m e. let h = no-loop-answer b t workRoom m e in says (noLoop (h .0 .graph)) (h .2);
 }
 
 pub once-fed-ranged : (b : List ℕ) (workRoom : ℕ) → Ranged (onceFedCall b workRoom)
 once-fed-ranged b workRoom = record {
-  no = λ r e. refused-by (once-fed-listed b workRoom) e;
+  no = λ r e. refused-in (once-fed-listed b workRoom) e;
   numbers = λ m e. let h = once-fed-answer b workRoom m e in says (monogamous (h .0 .graph)) (h .2);
 }
 
@@ -188,7 +187,7 @@ once-fed-ranged b workRoom = record {
 nothing-ranged : (room : ℕ) (start : Answer Next) → ((x : Next) → start ≡ answered x → Proper (x .graph)) → Listed start → ((x : Next) → start ≡ answered x → x .id ≡ 0)
     → Ranged (onNothing room start)
 nothing-ranged room start keeps listed zero-id = record {
-  no = λ r e. refused-by (on-nothing-listed room start listed) e;
+  no = λ r e. refused-in (on-nothing-listed room start listed) e;
   numbers = λ m e.
       let h = on-nothing-answer room start m keeps e in
       writes (h .3) (form-short (h .2)) (omega (arith, zero-id (h .0) (h .1)));

@@ -26,9 +26,9 @@ pub record ReturnsMap (a : Answer Result) (r : ℕ) (old new oldMap newMap : Lis
   pub buffer : new ≡ laid a old
   pub map : newMap ≡ laidMap a oldMap
 
--- the numbers of an answer fit their bits, and its refusals are those of 01
+-- the numbers of an answer fit their bits, and no refusal is 0
 pub record Ranged (a : Answer Result) : Type 0 where
-  pub no : (r : Refusal) → a ≡ refused r → (1 ≤ r .no) × (r .no ≤ 10)
+  pub no : (r : Refusal) → a ≡ refused r → (1 ≤ r .no) × (r .no < 256)
   pub numbers : (x : Result) → a ≡ answered x → (x .a < 2 ^ 24) × (x .b < 2 ^ 32)
 
 -- the same of the outcome in code
@@ -38,4 +38,4 @@ packedOutcome (call.Refused x) = pack (x .no) 0 0
 
 abbrev pub Packs : Outcome → Type 0
 Packs (call.Done a b) = (a < 2 ^ 24) × (b < 2 ^ 32)
-Packs (call.Refused x) = x .no ≤ 10
+Packs (call.Refused x) = x .no < 256

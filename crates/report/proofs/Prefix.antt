@@ -1,26 +1,24 @@
 -- More bytes than the longest form has make no difference to the report: of bytes p that are more and any bytes q after them, the refusal is that of p.
 -- The header lies in p, and so do all labels and edges that the limits allow; whatever is left then is longer than the longest lists.
 -- Assumes nothing.
-use mathlib.Core.Bool.{Bool, true, false, cond}
+use mathlib.Core.Bool.{Bool, true, false}
 use mathlib.Core.List.{List, [], _∷_, _++_}
 use mathlib.Core.Path.{_≡_, refl, sym, ap, subst, _∙_}
 use Prim.Native.Nat.{ℕ, zero, suc, _+_, _*_, _≤_, _<_}
 use native.Mathlib.Nat.{suc-mul, mul-le-mul-right}
 use native.Mathlib.Omega.{arith}
-use lib.Dec.{leb, eqb}
+use lib.Dec.{leb}
 use lib.ListN.{length, take, drop, length-append, length-drop, take-append-drop}
 use lib.Seq.{take-all, length-take-le, take-append-le, drop-append-le}
 use borrow.Author.Tests.{le-leb, leb-true, leb-false}
 use Rattle.graph.specs.Answer.{Refusal, Answer, refused, answered, refusal, _else_, _>>=_, _>>_}
 use Rattle.graph.specs.Calls.{unpaired}
 use Rattle.graph.specs.Form.{headerBytes, formBytes}
-use Rattle.graph.specs.Graph.{Edge, Counts, Format, Within, countsFit, largest}
-use Rattle.graph.specs.Read.{readVersion, readCounts, readEdge, readEdges, readBody, readIn, countsAt}
-use Rattle.graph.specs.Versions.{StoredGraph, formatNumbered, read}
+use Rattle.graph.specs.Graph.{Edge, Graph, Counts, Format, form1, Within, countsFit}
+use Rattle.graph.specs.Read.{readVersion, readCounts, readEdge, readEdges, readBody, readIn, readAs, countsAt}
 use Rattle.le.specs.Le.{number, numbers, numberAt}
 use Rattle.graph.proofs.Reading.{Edges}
 use Rattle.graph.proofs.ReadWrite.{fits-within}
-use Rattle.graph.proofs.Steps.{same-answer, never}
 use Rattle.graph.proofs.Verdicts.{lists-5}
 use Rattle.le.proofs.Numbers.{length-numbers}
 use Rattle.report.specs.Report.{told, reportText}
@@ -34,10 +32,6 @@ data Alike {A : Type 0} (P : A → Type 0) (second : A → A) : Answer A → Ans
 -- the second is the first
 abbrev Same : {A : Type 0} → (A → Type 0) → Answer A → Answer A → Type 0
 Same P = Alike P (λ a. a)
-
-same-itself : {A : Type 0} (x : Answer A) → Same (λ a. x ≡ answered a) x x
-same-itself (refused r) = stopped r
-same-itself (answered a) = went a a refl refl
 
 same-answers : {A : Type 0} {P : A → Type 0} {x y : Answer A} → Same P x y → y ≡ x
 same-answers (stopped r) = refl
@@ -196,30 +190,18 @@ version-more p q l =
     rw (take-append-le 3 p q (omega arith), number-front p q 2 3 (omega arith))
     (alike-test _ _ 1 (long-front p q 15 (omega arith)) (λ _. alike-test _ _ 2 refl (λ _. went _ _ refl tt)))
 
--- no version has a longer form than the largest
-longest-form : (v : ℕ) (f : Format) → formatNumbered v ≡ answered f → formBytes f (f .most) (f .mostPorts) ≤ formBytes largest (largest .most) (largest .mostPorts)
-unfolding formatNumbered
-longest-form v f = go (eqb v 1)
-  where
-    go : (t : Bool) → cond t (answered largest) (refused (refusal 3)) ≡ answered f
-        → formBytes f (f .most) (f .mostPorts) ≤ formBytes largest (largest .most) (largest .mostPorts)
-    go true e = subst (λ (k : Format). formBytes k (k .most) (k .mostPorts) ≤ formBytes largest (largest .most) (largest .mostPorts)) (same-answer e) (omega arith)
-    go false e = absurd (never e)
-
-read-more : (p q : List ℕ) → formBytes largest (largest .most) (largest .mostPorts) < length p → read (p ++ q) ≡ read p
-unfolding read
+read-more : (p q : List ℕ) → formBytes form1 (form1 .most) (form1 .mostPorts) < length p → readAs form1 (p ++ q) ≡ readAs form1 p
+unfolding readAs
 read-more p q l =
-    same-answers {P = λ s. Unit {0}}
-    (alike-then _ _ (version-more p q (omega arith)) (λ v _.
-    alike-then _ _ (same-itself (formatNumbered v)) (λ f e.
-    alike-then _ _ (in-more f p q (omega (arith, longest-form v f e))) (λ g _. went _ _ refl tt))))
+    same-answers {P = λ g. Unit {0}}
+    (alike-then _ _ (version-more p q (omega arith)) (λ v _. alike-test _ _ 3 refl (λ _. in-more form1 p q l)))
 
-pub report-of-prefix : (n : ℕ) (b : List ℕ) → formBytes largest (largest .most) (largest .mostPorts) < n → reportText (take n b) ≡ reportText b
+pub report-of-prefix : (n : ℕ) (b : List ℕ) → formBytes form1 (form1 .most) (form1 .mostPorts) < n → reportText (take n b) ≡ reportText b
 unfolding reportText
-report-of-prefix n b l = ap (λ (m : Answer StoredGraph). told (m >>= λ s. unpaired (s .graph))) (go (leb (length b) n) refl)
+report-of-prefix n b l = ap (λ (m : Answer Graph). told (m >>= unpaired)) (go (leb (length b) n) refl)
   where
-    go : (t : Bool) → leb (length b) n ≡ t → read (take n b) ≡ read b
-    go true e = ap read (take-all n b (leb-true _ _ e))
+    go : (t : Bool) → leb (length b) n ≡ t → readAs form1 (take n b) ≡ readAs form1 b
+    go true e = ap (readAs form1) (take-all n b (leb-true _ _ e))
     go false e =
         let long : length (take n b) ≡ n = length-take-le n b (omega (arith, leb-false (length b) n e)) in
-        sym (read-more (take n b) (drop n b) (omega arith)) ∙ ap read (take-append-drop n b)
+        sym (read-more (take n b) (drop n b) (omega arith)) ∙ ap (readAs form1) (take-append-drop n b)

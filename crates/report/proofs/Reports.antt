@@ -2,33 +2,44 @@
 -- Assumes nothing.
 use mathlib.Core.Bool.{Bool, true, false}
 use mathlib.Core.List.{List, [], _∷_}
-use mathlib.Core.Path.{_≡_, refl, sym, ap, _∙_}
-use Prim.Native.Nat.{ℕ, _+_, _^_, _≤_, _<_}
-use native.Mathlib.Nat.{zero-mul, mul-le-mul-left, mul-le-mul-right}
+use mathlib.Core.Path.{_≡_, refl, sym, ap, subst, _∙_}
+use Prim.Native.Nat.{ℕ, _+_, _*_, _^_, _≤_, _<_}
+use native.Mathlib.Nat.{zero-mul}
 use native.Mathlib.Omega.{arith}
 use lib.Dec.{eqb}
-use lib.ListN.{length, drop, length-append}
+use mir.Syntax.{w8}
+use mir.Val.{Fits}
+use lib.ListN.{length, getD, drop, length-append}
 use borrow.Author.Tests.{le-leb, eqb-true, eqb-false}
 use Rattle.choice.specs.Calls.{cycleBroken, cycleBreakingNodesCall, roomCycleBreakingNodes}
 use Rattle.choice.specs.Choice.{Above, Ascends}
 use Rattle.choice.specs.Drawing.{chosen}
-use Rattle.form.specs.Form.{Gives, outcome, refusalOf}
+use Rattle.form.specs.Form.{Gives, outcome, refusalOf, meantBy, meant, reading}
 use Rattle.form.specs.Stored.{graphOf, formatOf, Stored}
 use Rattle.form.specs.declared.Outcome.the-variants as call
 use Rattle.form.specs.declared.Outcome.{Outcome}
+use Rattle.form.specs.declared.Format.{Format}
+use Rattle.form.specs.declared.Reading.{Reading}
+use Rattle.form.specs.declared.Reading.the-variants as read
 use Rattle.form.specs.declared.Refusal.{Refusal}
 use Rattle.form.specs.declared.Sizes.{Sizes}
 use Rattle.graph.specs.Answer as answer
 use Rattle.graph.specs.Answer.{Answer, refused, answered, refusal, Result, lay, laid, _else_, _>>=_, _>>_}
 use Rattle.graph.specs.Calls.{unpaired, fit}
-use Rattle.graph.specs.Graph.{Graph, largest}
-use Rattle.graph.specs.Versions.{read}
+use Rattle.graph.specs.Graph as graph
+use Rattle.graph.specs.Graph.{Graph, form1}
+use Rattle.graph.specs.Read.{readAs}
+use Rattle.graph.specs.Versions.{StoredGraph}
 use Rattle.le.specs.Le.{Below, row}
 use Rattle.le.specs.Rows.{rowAt, Holds, span}
 use Rattle.choice.proofs.Graphs.{chosen-breaks}
 use Rattle.graph.proofs.Verdicts.{in-room, unpaired-0, unpaired-8}
-use Rattle.le.proofs.Numbers.{below-widen, length-row, numbers-row}
-use Rattle.le.proofs.Rows.{wide-some}
+use Rattle.form.proofs.Stored.{stored}
+use Rattle.graph.proofs.Steps.{same-answer}
+use Rattle.graph.proofs.Versions.{first-alone}
+use Rattle.le.proofs.Numbers.{below-each, below-widen, length-row, numbers-row}
+use Rattle.read.specs.Steps.{measured}
+use Rattle.read.proofs.Whole.{graph-refused, graph-read}
 use Rattle.report.specs.Report.{refusedLine, drawingText, told, reportText, listRoom}
 
 -- numbers that ascend, all above x and below n, are fewer than n - x
@@ -41,9 +52,36 @@ ascending-few : (n : ℕ) (xs : List ℕ) → Ascends xs → Below n xs → leng
 ascending-few n [] a h = omega arith
 ascending-few n (x ∷ xs) a h = omega (arith, above-few n x xs (h .0) a (h .1))
 
+-- the bytes were read, by one that knows version 1 alone, as a graph of these sizes
+pub record Alone (b : List ℕ) (z : Sizes) : Type 0 where
+  pub stored : Stored b z
+  pub alone : readAs form1 b ≡ answered (graphOf b)
+  pub first : formatOf b ≡ form1
+
+-- what reading answered
+module _ (b : List ℕ) {f : Format} {r : Reading} (is : r ≡ measured (f .width) (readAs (meant f) b)) (first : meant f ≡ form1) where
+  as-first : r ≡ measured (form1 .width) (readAs form1 b)
+  as-first = is ∙ ap (λ (k : graph.Format). measured (k .width) (readAs k b)) first
+
+  pub unread-alone : (x : Refusal) → r ≡ read.Refused x → readAs form1 b ≡ refused (meantBy x)
+  unread-alone x e = graph-refused (form1 .width) (readAs form1 b) x (sym e ∙ as-first)
+
+  pub read-alone : ((i : ℕ) → Fits w8 (getD b i 0)) → (z : Sizes) → r ≡ read.Sized z → Alone b z
+  read-alone known z e =
+      let t : Below 256 b = below-each 256 b (λ i l. omega (arith, known i)) in
+      let p = graph-read (form1 .width) (readAs form1 b) z (sym e ∙ as-first) in
+      let whole = first-alone b (p .0) t (p .1) in
+      let s = stored b (read.Sized z) (ap read.Sized (p .2) ∙ sym (ap reading whole)) t z refl in
+      let same = same-answer (sym whole ∙ s .read-as) in
+      record {
+        stored = s;
+        alone = p .1 ∙ ap (λ (k : StoredGraph). answered (k .graph)) same;
+        first = sym (ap (λ (k : StoredGraph). k .format) same);
+      }
+
 -- what is told of a drawing of these sizes whose choice was answered with these counts and this list
 pub record Drawing (b : List ℕ) (z : Sizes) (count free : ℕ) (new : List ℕ) : Type 0 where
-  pub few : count ≤ largest .most .nodes
+  pub few : count ≤ form1 .most .nodes
   pub held : Holds new (rowAt 0 (z .width)) count
   pub text : drawingText (z .nodes) (z .edges) (z .ports) free (span new (rowAt 0 (z .width)) 0 count) ≡ reportText b
 
@@ -52,11 +90,14 @@ span-laid : (w : ℕ) (ids old : List ℕ) → Below (256 ^ w) ids → span (lay
 unfolding span
 span-laid w ids old h = rw zero-mul (numbers-row w ids _ h)
 
-pub text-unread : (b : List ℕ) (r : answer.Refusal) → read b ≡ refused r → refusedLine (r .no) ≡ reportText b
+pub text-unread : (b : List ℕ) (r : answer.Refusal) → readAs form1 b ≡ refused r → refusedLine (r .no) ≡ reportText b
 unfolding reportText _>>=_
 text-unread b r e = rw e
 
-module _ (b : List ℕ) (z : Sizes) (s : Stored b z) where
+module _ (b : List ℕ) (z : Sizes) (h : Alone b z) where
+  abbrev s : Stored b z
+  s = h .stored
+
   abbrev g : Graph
   g = graphOf b
 
@@ -69,11 +110,11 @@ module _ (b : List ℕ) (z : Sizes) (s : Stored b z) where
   -- what is told, and what the choice answers, by whether there is a pending pair
   text-paired : unpaired g ≡ refused (refusal 8) → refusedLine 8 ≡ reportText b
   unfolding reportText _>>=_
-  text-paired p = rw (s .read-as, p)
+  text-paired p = rw (h .alone, p)
 
   text-pairless : unpaired g ≡ answered g → told (answered g) ≡ reportText b
   unfolding reportText _>>=_
-  text-pairless p = rw (s .read-as, p)
+  text-pairless p = rw (h .alone, p)
 
   cut-paired : (room : ℕ) → unpaired g ≡ refused (refusal 8) → cycleBroken b room ≡ refused (refusal 8)
   unfolding cycleBroken _>>=_
@@ -81,13 +122,14 @@ module _ (b : List ℕ) (z : Sizes) (s : Stored b z) where
 
   cut-pairless : (room : ℕ) → unpaired g ≡ answered g → length (row w (chosen g .ids)) ≤ room → cycleBroken b room ≡ answered cut
   unfolding cycleBroken fit _>>=_ _else_ _>>_
-  cut-pairless room p h = rw (s .read-as, p, le-leb (length (row w (chosen g .ids))) room h)
+  cut-pairless room p fits = rw (s .read-as, p, le-leb (length (row w (chosen g .ids))) room fits)
 
   -- the chosen ids are few, and small enough for their width
-  chosen-few : length (chosen g .ids) ≤ largest .most .nodes
+  chosen-few : length (chosen g .ids) ≤ form1 .most .nodes
   chosen-few =
       let k = chosen-breaks g (s .formed .proper) in
-      omega (arith, ascending-few (length (g .labels)) (chosen g .ids) (k .ascends) (k .nodes), s .within .counts .nodes)
+      let most = subst (λ (f : graph.Format). length (g .labels) ≤ f .most .nodes) (h .first) (s .formed .counts .nodes) in
+      omega (arith, ascending-few (length (g .labels)) (chosen g .ids) (k .ascends) (k .nodes), most)
 
   chosen-small : Below (256 ^ w) (chosen g .ids)
   chosen-small = below-widen (chosen g .ids) (omega (arith, s .formed .counts .nodes, s .usable .nodes)) (chosen-breaks g (s .formed .proper) .nodes)
@@ -105,8 +147,7 @@ module _ (b : List ℕ) (z : Sizes) (s : Stored b z) where
         inside = in-room roomCycleBreakingNodes lent (cycleBroken b (length old)) work-room
 
         fits : length (row w (chosen g .ids)) ≤ length old
-        fits =
-            omega (arith, length-row w (chosen g .ids), mul-le-mul-right w chosen-few, mul-le-mul-left (largest .most .nodes) (wide-some (s .usable .width) .1))
+        fits = omega (arith, length-row w (chosen g .ids), chosen-few, ap (λ (f : graph.Format). length (chosen g .ids) * f .width) (h .first))
 
         go : (t : Bool) → eqb (length (g .pairs)) 0 ≡ t → Ways
         go false q = let p = unpaired-8 g (eqb-false _ _ q) in paired (inside ∙ cut-paired (length old) p) (text-paired p)

@@ -5,10 +5,10 @@ use Prim.Native.Nat.{ℕ, _*_}
 use Prim.Native.String.{String}
 use lib.ListN.{length}
 use Rattle.graph.specs.Lists.{joined}
-use Rattle.graph.specs.Graph.{Graph, Format, form1, largest, ports}
+use Rattle.graph.specs.Graph.{Graph, Format, form1, ports}
 use Rattle.graph.specs.Form.{mark}
 use Rattle.graph.specs.Answer.{Answer, refused, answered, _>>=_}
-use Rattle.graph.specs.Versions.{read}
+use Rattle.graph.specs.Read.{readAs}
 use Rattle.graph.specs.Calls.{unpaired}
 use Rattle.choice.specs.Drawing.{chosen}
 use Rattle.report.specs.Text.{ascii, decimal}
@@ -48,14 +48,14 @@ abbrev pub told : Answer Graph → List ℕ
 told (refused r) = refusedLine (r .no)
 told (answered g) = drawingText (length (g .labels)) (length (g .edges)) (ports g) (chosen g .free) (chosen g .ids)
 
--- what is printed for any bytes
+-- what is printed for any bytes; the program knows version 1 alone
 unfoldable pub reportText : List ℕ → List ℕ
-reportText b = told (read b >>= λ s. unpaired (s .graph))
+reportText b = told (readAs form1 b >>= unpaired)
 
 -- the bytes of the buffer into which a report is put: more than the longest one has
 abbrev pub reportRoom : ℕ
 reportRoom = 65536
 
--- the bytes of a list of all nodes, in the widest ids that there are
+-- the bytes of a list of all nodes
 abbrev pub listRoom : ℕ
-listRoom = largest .most .nodes * 4
+listRoom = form1 .most .nodes * form1 .width

@@ -1,4 +1,4 @@
-// The report on a drawing. Reads a stored form from standard input and prints its mark and version, its sizes, how many nodes are cut and how many vertices
+// The report on a drawing. Reads a stored form of version 1 from standard input and prints its mark and version, its sizes, how many nodes are cut and how many vertices
 // were removed freely, and then the cut ids, one a line. On a refusal it prints one line, `refused` and the number.
 mod text;
 
@@ -30,7 +30,7 @@ fn report(src: &[u8], list: &mut [u8], room: &mut [u8], out: &mut [u8]) -> usize
     ensures { λ r. ⌜ Printed (now (out .entry)) 0 (reportText (now (src .entry))) (now (out .exit)) r ⌝ }
     ensures { λ r. ⌜ Counts r (now (out .exit)) ⌝ }
 {
-    let graph = read::read(src);
+    let graph = read::read_as(src, form::form1());
     let Reading::Sized(z) = graph else {
         return put_refusal(out, graph.refusal());
     };
@@ -49,7 +49,7 @@ fn is_ended() -> bool {
 
 // Reads, reports and writes. No contract can say which bytes are read or written, so all that is to be decided is decided in `report`.
 //
-// The buffer is longer than the longest form, of 49,167 bytes. Where the input fills it, the rest is not read, and the report is the one on the whole input
+// The buffer is longer than the longest form of version 1, of 49,167 bytes. Where the input fills it, the rest is not read, and the report is the one on the whole input
 // (`report-of-prefix`, proofs/Prefix): the header, the labels and the edges that the limits allow lie in front, so whatever refuses the front on the way refuses
 // the whole with the same number; and where nothing does, both are too long, which is 5.
 //

@@ -4,7 +4,7 @@ ghost use mathlib.Core.List.{_++_};
 ghost use Prim.Native.Nat.{_+_, _*_, _≤_};
 ghost use lib.ListN.{length};
 ghost use Rattle.graph.specs.Lists.{joined};
-ghost use Rattle.graph.specs.Graph.{largest};
+ghost use Rattle.graph.specs.Graph.{form1};
 ghost use Rattle.io.specs.Counts.{Counts};
 ghost use Rattle.le.specs.Rows.{rowAt, Holds, span};
 ghost use Rattle.report.specs.Text.{Printed, decimal};
@@ -98,7 +98,7 @@ fn put_ids(out: &mut [u8], at: usize, list: &[u8], row: Row, ids: usize) -> usiz
 
 // A drawing of these sizes, of which the first ids of the list are cut.
 pub fn put_drawing(out: &mut [u8], z: Sizes, list: &[u8], ids: usize, free: usize) -> usize
-    requires { ⌜ (ids ≤ largest .most .nodes) × Holds (now list) (rowAt 0 (z .width)) ids × (reportRoom ≤ length (now out)) ⌝ }
+    requires { ⌜ (ids ≤ form1 .most .nodes) × Holds (now list) (rowAt 0 (z .width)) ids × (reportRoom ≤ length (now out)) ⌝ }
     ensures { λ r. ⌜ Printed (now (out .entry)) 0
         (drawingText (z .nodes) (z .edges) (z .ports) free (span (now (list .entry)) (rowAt 0 (z .width)) 0 ids)) (now (out .exit)) r ⌝ }
     ensures { λ r. ⌜ Counts r (now (out .exit)) ⌝ }
