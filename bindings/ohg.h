@@ -5,7 +5,7 @@
  * What is lent as `const` is never written. All numbers in slices are little-endian. A parameter means the same wherever it stands:
  *
  *   src                                   a stored graph
- *   sources, targets, ids                 a list of ids, 2 bytes each
+ *   sources, targets, ids                 a list of ids, as wide as in `src`: 2 bytes each in version 1, 4 in version 2
  *   labels, source_labels, target_labels  a list of labels, 4 bytes each
  *   label, v, w, edge                     one label, two node ids, an edge id
  *   out                                   gets the stored form of the answered graph
@@ -15,6 +15,9 @@
  * Every function returns code | a << 8 | b << 32: 8, 24 and 32 bits. Code is 0 on success, and a and b are what the function's comment says.
  * On a refusal code is the refusal's number, a and b are 0, and no answer buffer has been written to. On success the bytes of an answer
  * buffer past the answer stay as they were.
+ *
+ * One graph has one form: an answered graph that fits version 1 is stored as version 1, any other as version 2, whichever version was read.
+ * Lists and maps have the width of the graph that the call reads, whichever version its answer has: ohg_width.
  *
  * docs/INTERFACE.md says more. */
 #ifndef OHG_H
@@ -32,51 +35,62 @@ extern "C" {
 #define OHG_A(answer) ((uint32_t)((answer) >> 8 & 0xFFFFFF))
 #define OHG_B(answer) ((uint32_t)((answer) >> 32))
 
-/* Why a call was refused; the first that holds, in this order, but OHG_SHORT_BUFFER for work room before all others, and 4 and 5 after the
- * header as they are met from left to right. */
+/* Why a call was refused; the first that holds, in this order, but OHG_SHORT_BUFFER for work room before all others, OHG_OTHER_LENGTH for a
+ * header of version 2 that is cut before its counts are read, and 4 and 5 after the header as they are met from left to right. */
 enum ohg_refusal {
     OHG_DONE = 0,           /* not refused */
     OHG_NO_HEADER = 1,      /* fewer than 15 bytes: not a stored form, or cut in its header */
     OHG_NO_MARK = 2,        /* the first three bytes are not `OHG`: not a stored form */
-    OHG_OTHER_VERSION = 3,  /* the version is not 1: written by a newer tool */
-    OHG_OVER_LIMIT = 4,     /* a count in the header, or the sum of the ports, is above its limit */
+    OHG_OTHER_VERSION = 3,  /* the version is neither 1 nor 2: written by a newer tool */
+    OHG_OVER_LIMIT = 4,     /* a count in the header, or the sum of the ports, is above its version's limit */
     OHG_OTHER_LENGTH = 5,   /* the length is not what the counts call for: cut short, or bytes follow */
     OHG_FOREIGN_ID = 6,     /* a stored node id is not below the node count */
+    OHG_OTHER_FORM = 13,    /* a form of version 2 whose graph fits version 1: one graph has one form; write it by version 1 */
     OHG_BAD_LIST = 7,       /* a list in the call ends in a broken entry, or an id in the call is not below its count */
     OHG_PENDING_PAIR = 8,   /* the graph has a pending pair, and the operation needs none: draw joined nodes as one, or delete one of each pair */
-    OHG_RESULT_LIMIT = 9,   /* the result would pass a limit: split the drawing */
+    OHG_RESULT_LIMIT = 9,   /* the result would pass a limit of version 2: split the drawing */
     OHG_SHORT_BUFFER = 10   /* an answer buffer is shorter than the answer, or work room is shorter than its macro says */
 };
 
-/* The most bytes that a stored form of version 1 has: an answer buffer of this length is never too short for a graph. */
-#define OHG_FORM_BYTES 49167
+/* The most bytes that a stored form has, so that an answer buffer of this length is never too short for a graph; and one of version 1. */
+#define OHG_FORM_BYTES 655385
+#define OHG_FORM_BYTES_1 49167
 
 /* The bytes that ohg_read answers. */
 #define OHG_SIZES_BYTES 24
 
-/* The most bytes of an answered list or map: 2 for each of 2,048 nodes. */
-#define OHG_LIST_BYTES 4096
+/* The most bytes of an answered list or map: 4 for each of 16,384 nodes, and 2 for each of 2,048 where the graph read is of version 1. */
+#define OHG_LIST_BYTES 65536
+#define OHG_LIST_BYTES_1 4096
 
-/* The edge label that says spider, and what stands in a map for a node that went. */
+/* The edge label that says spider. */
 #define OHG_SPIDER 4294967295u
-#define OHG_GONE 65535u
+
+/* What stands in a map for a node that went, of 4 bytes and, where the graph read is of version 1, of 2. */
+#define OHG_GONE 4294967295u
+#define OHG_GONE_1 65535u
+
+/* The bytes of an id in the lists and maps of a call on this form: 4 where its version is 2, else 2. */
+static inline uint32_t ohg_width(const uint8_t *src, size_t src_len) {
+    return src_len >= 5 && src[3] == 2 && src[4] == 0 ? 4 : 2;
+}
 
 /* The bytes of work room that each function asks for. */
-#define OHG_ROOM_DELETE_EDGES 2048
-#define OHG_ROOM_DELETE_NODES 2048
-#define OHG_ROOM_SPIDERIZE 16384
-#define OHG_ROOM_SPIDERIZE_NODES 16384
-#define OHG_ROOM_CYCLE_BREAKING_NODES 172048
-#define OHG_ROOM_NO_LOOP 147472
-#define OHG_ROOM_ONCE_FED 2048
+#define OHG_ROOM_DELETE_EDGES 16384
+#define OHG_ROOM_DELETE_NODES 16384
+#define OHG_ROOM_SPIDERIZE 131072
+#define OHG_ROOM_SPIDERIZE_NODES 131072
+#define OHG_ROOM_CYCLE_BREAKING_NODES 1390016
+#define OHG_ROOM_NO_LOOP 1190656
+#define OHG_ROOM_ONCE_FED 16384
 
 /* Reads a stored graph and answers its sizes: six 4-byte little-endian numbers, nodes, edges, ports, global sources, global
  * targets, pairs.
- * a: 24, the bytes written. b: 0. Refusals: 1 to 6, 10. */
+ * a: 24, the bytes written. b: 0. Refusals: 1 to 6, 13, 10. */
 uint64_t ohg_read(const uint8_t *src, size_t src_len, uint8_t *sizes, size_t sizes_len);
 
 /* Reads a stored graph and writes it. One graph has one form, so the answer is the bytes that were read.
- * a: bytes written. b: 0. Refusals: 1 to 6, 10. */
+ * a: bytes written. b: 0. Refusals: 1 to 6, 13, 10. */
 uint64_t ohg_rewrite(const uint8_t *src, size_t src_len, uint8_t *out, size_t out_len);
 
 /* The graph with nothing in it.
@@ -98,68 +112,69 @@ uint64_t ohg_singleton(uint32_t label, const uint8_t *source_labels, size_t sour
                        size_t target_labels_len, uint8_t *out, size_t out_len);
 
 /* One more node.
- * a: bytes written. b: the new node's id. Refusals: 1 to 6, 9, 10. */
+ * a: bytes written. b: the new node's id. Refusals: 1 to 6, 13, 9, 10. */
 uint64_t ohg_new_node(const uint8_t *src, size_t src_len, uint32_t label, uint8_t *out, size_t out_len);
 
 /* One more edge between nodes that are there. Label OHG_SPIDER makes a spider.
- * a: bytes written. b: the new edge's id. Refusals: 1 to 7, 9, 10. */
+ * a: bytes written. b: the new edge's id. Refusals: 1 to 6, 13, 7, 9, 10. */
 uint64_t ohg_new_edge(const uint8_t *src, size_t src_len, uint32_t label, const uint8_t *sources, size_t sources_len,
                       const uint8_t *targets, size_t targets_len, uint8_t *out, size_t out_len);
 
 /* One more edge with new nodes: first one for each source label, then one for each target label, then the edge between them. The
  * new nodes' ids follow from the old node count.
- * a: bytes written. b: the new edge's id. Refusals: 1 to 7, 9, 10. */
+ * a: bytes written. b: the new edge's id. Refusals: 1 to 6, 13, 7, 9, 10. */
 uint64_t ohg_new_operation(const uint8_t *src, size_t src_len, uint32_t label, const uint8_t *source_labels,
                            size_t source_labels_len, const uint8_t *target_labels, size_t target_labels_len, uint8_t *out,
                            size_t out_len);
 
 /* One more pending pair of nodes. No labels are compared.
- * a: bytes written. b: 0. Refusals: 1 to 7, 9, 10. */
+ * a: bytes written. b: 0. Refusals: 1 to 6, 13, 7, 9, 10. */
 uint64_t ohg_unify(const uint8_t *src, size_t src_len, uint32_t v, uint32_t w, uint8_t *out, size_t out_len);
 
 /* One more node, at the end of an edge's sources.
- * a: bytes written. b: the new node's id. Refusals: 1 to 7, 9, 10. */
+ * a: bytes written. b: the new node's id. Refusals: 1 to 6, 13, 7, 9, 10. */
 uint64_t ohg_add_edge_source(const uint8_t *src, size_t src_len, uint32_t edge, uint32_t label, uint8_t *out, size_t out_len);
 
 /* One more node, at the end of an edge's targets.
- * a: bytes written. b: the new node's id. Refusals: 1 to 7, 9, 10. */
+ * a: bytes written. b: the new node's id. Refusals: 1 to 6, 13, 7, 9, 10. */
 uint64_t ohg_add_edge_target(const uint8_t *src, size_t src_len, uint32_t edge, uint32_t label, uint8_t *out, size_t out_len);
 
 /* The graph without these edges; the rest keep their order. Repeated ids count once.
- * a: bytes written. b: 0. Room: OHG_ROOM_DELETE_EDGES. Refusals: 10 (room), 1 to 7, 10. */
+ * a: bytes written. b: 0. Room: OHG_ROOM_DELETE_EDGES. Refusals: 10 (room), 1 to 6, 13, 7, 10. */
 uint64_t ohg_delete_edges(const uint8_t *src, size_t src_len, const uint8_t *ids, size_t ids_len, uint8_t *out, size_t out_len,
                           uint8_t *room, size_t room_len);
 
 /* The graph without these nodes: every entry of them is dropped from edge and global lists, a pair is dropped if either end goes,
  * the rest are numbered anew in order.
- * `map` gets 2 bytes for each old node: its new id, or OHG_GONE. If either buffer is too short neither is written.
- * a: bytes written to `out`. b: map entries written. Room: OHG_ROOM_DELETE_NODES. Refusals: 10 (room), 1 to 7, 10. */
+ * `map` gets, as wide as in `src`, the new id of each old node, or OHG_GONE (OHG_GONE_1 of 2 bytes). If either buffer is too short neither is
+ * written.
+ * a: bytes written to `out`. b: map entries written. Room: OHG_ROOM_DELETE_NODES. Refusals: 10 (room), 1 to 6, 13, 7, 10. */
 uint64_t ohg_delete_nodes(const uint8_t *src, size_t src_len, const uint8_t *ids, size_t ids_len, uint8_t *out, size_t out_len,
                           uint8_t *map, size_t map_len, uint8_t *room, size_t room_len);
 
 /* The graph with the implicit wiring of all its nodes made explicit: every entry of a node gets a fresh node with its label, numbered on from
  * the node count, and two spiders are appended for each node, which join what the fresh nodes took apart. A spider already there stays one.
- * a: bytes written. b: 0. Room: OHG_ROOM_SPIDERIZE. Refusals: 10 (room), 1 to 6, 8, 9, 10. */
+ * a: bytes written. b: 0. Room: OHG_ROOM_SPIDERIZE. Refusals: 10 (room), 1 to 6, 13, 8, 9, 10. */
 uint64_t ohg_spiderize(const uint8_t *src, size_t src_len, uint8_t *out, size_t out_len, uint8_t *room, size_t room_len);
 
-/* The same of the nodes in a list, 2 bytes an id; repeats and order have no effect. Spiderizing the nodes that ohg_cycle_breaking_nodes
- * lists leaves no directed cycle.
- * a: bytes written. b: 0. Room: OHG_ROOM_SPIDERIZE_NODES. Refusals: 10 (room), 1 to 10. */
+/* The same of the nodes in a list; repeats and order have no effect. Spiderizing the nodes that ohg_cycle_breaking_nodes lists leaves no
+ * directed cycle.
+ * a: bytes written. b: 0. Room: OHG_ROOM_SPIDERIZE_NODES. Refusals: 10 (room), 1 to 6, 13, 7 to 10. */
 uint64_t ohg_spiderize_nodes(const uint8_t *src, size_t src_len, const uint8_t *ids, size_t ids_len, uint8_t *out, size_t out_len,
                              uint8_t *room, size_t room_len);
 
-/* Chooses nodes that every directed cycle passes through; `list` gets their ids, 2 bytes each, ascending. It is empty exactly when
+/* Chooses nodes that every directed cycle passes through; `list` gets their ids, as wide as in `src`, ascending. It is empty exactly when
  * there is no directed cycle.
- * a: ids in the list. b: vertices removed freely. Room: OHG_ROOM_CYCLE_BREAKING_NODES. Refusals: 10 (room), 1 to 6, 8, 10. */
+ * a: ids in the list. b: vertices removed freely. Room: OHG_ROOM_CYCLE_BREAKING_NODES. Refusals: 10 (room), 1 to 6, 13, 8, 10. */
 uint64_t ohg_cycle_breaking_nodes(const uint8_t *src, size_t src_len, uint8_t *list, size_t list_len, uint8_t *room, size_t room_len);
 
 /* Whether there is no directed cycle.
- * a: 1 yes, 0 no. b: 0. Room: OHG_ROOM_NO_LOOP. Refusals: 10 (room), 1 to 6, 8. */
+ * a: 1 yes, 0 no. b: 0. Room: OHG_ROOM_NO_LOOP. Refusals: 10 (room), 1 to 6, 13, 8. */
 uint64_t ohg_no_loop(const uint8_t *src, size_t src_len, uint8_t *room, size_t room_len);
 
 /* Whether each node is fed exactly once, counting edge targets and global sources, and used exactly once, counting edge sources and
  * global targets. A node that stands twice in a list is counted twice; a graph without nodes gets a yes.
- * a: 1 yes, 0 no. b: 0. Room: OHG_ROOM_ONCE_FED. Refusals: 10 (room), 1 to 6, 8. */
+ * a: 1 yes, 0 no. b: 0. Room: OHG_ROOM_ONCE_FED. Refusals: 10 (room), 1 to 6, 13, 8. */
 uint64_t ohg_once_fed(const uint8_t *src, size_t src_len, uint8_t *room, size_t room_len);
 
 #ifdef __cplusplus

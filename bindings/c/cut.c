@@ -12,7 +12,8 @@ int main(void) {
         return 1;
     }
     printf("cut %u free %u\n", OHG_A(choice), OHG_B(choice));
-    uint64_t answer = ohg_spiderize_nodes(form, n, list, 2 * OHG_A(choice), cut, sizeof cut, room, sizeof room);
+    size_t chosen = ohg_width(form, n) * OHG_A(choice);
+    uint64_t answer = ohg_spiderize_nodes(form, n, list, chosen, cut, sizeof cut, room, sizeof room);
     if (OHG_CODE(answer) != OHG_DONE) {
         printf("refused %u\n", OHG_CODE(answer));
         return 1;

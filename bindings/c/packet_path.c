@@ -81,9 +81,9 @@ int main(void) {
     size_t len = OHG_A(answered("ohg_discrete", answer));
 
     for (size_t i = 0; i < COUNT(blocks); i++) {
-        uint8_t ids[2 * COUNT(blocks[i].ids)];
-        for (size_t k = 0; k < COUNT(blocks[i].ids); k++) put(ids + 2 * k, 2, blocks[i].ids[k]);
-        size_t sources = 2 * blocks[i].sources, targets = 2 * blocks[i].targets;
+        uint8_t ids[4 * COUNT(blocks[i].ids)];
+        size_t width = ohg_width(path, len), sources = width * blocks[i].sources, targets = width * blocks[i].targets;
+        for (size_t k = 0; k < COUNT(blocks[i].ids); k++) put(ids + width * k, width, blocks[i].ids[k]);
         answer = ohg_new_edge(path, len, blocks[i].kind, ids, sources, ids + sources, targets, next, OHG_FORM_BYTES);
         len = OHG_A(answered("ohg_new_edge", answer));
         uint8_t *old = path;
@@ -92,16 +92,17 @@ int main(void) {
     }
     show("packet path", path, len);
 
-    uint8_t list[2 * COUNT(wires)];
+    uint8_t list[4 * COUNT(wires)];
+    size_t width = ohg_width(path, len);
     answer = ohg_cycle_breaking_nodes(path, len, list, sizeof list, room, sizeof room);
     uint32_t chosen = OHG_A(answered("ohg_cycle_breaking_nodes", answer));
     printf("loop buffers: %u (removed freely: %u)\n", chosen, OHG_B(answer));
     for (size_t i = 0; i < chosen; i++) {
-        uint32_t id = get(list + 2 * i, 2);
+        uint32_t id = get(list + width * i, width);
         printf("  wire %u, %s\n", id, wires[id].name);
     }
 
-    answer = ohg_spiderize_nodes(path, len, list, 2 * chosen, next, OHG_FORM_BYTES, room, sizeof room);
+    answer = ohg_spiderize_nodes(path, len, list, width * chosen, next, OHG_FORM_BYTES, room, sizeof room);
     len = OHG_A(answered("ohg_spiderize_nodes", answer));
     show("spiderized", next, len);
     return 0;

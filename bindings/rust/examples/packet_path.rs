@@ -89,7 +89,7 @@ fn main() -> Result<(), Refusal> {
         choice.free
     );
     for node in &choice.nodes {
-        println!("  wire {}, {}", node.0, WIRES[node.0].0);
+        println!("  wire {}, {}", node.0, WIRES[node.0 as usize].0);
     }
 
     show("spiderized", &path.spiderize_nodes(&choice.nodes)?)

@@ -30,23 +30,20 @@ mod lent;
 mod refusal;
 
 use exported::*;
-use lent::{answered, Lent, LIST_BYTES};
+use lent::{answered, Lent};
 pub use refusal::Refusal;
 use std::array;
 
 /// The edge label that says spider; every other value is an operation.
 pub const SPIDER: u32 = u32::MAX;
 
-/// What stands in the map of a deletion for a node that went.
-const GONE: usize = 65_535;
-
 /// A node's id. Ids count from 0.
 #[derive(Debug, Clone, Copy, PartialEq, Eq, PartialOrd, Ord, Hash)]
-pub struct NodeId(pub usize);
+pub struct NodeId(pub u32);
 
 /// An edge's id. Ids count from 0.
 #[derive(Debug, Clone, Copy, PartialEq, Eq, PartialOrd, Ord, Hash)]
-pub struct EdgeId(pub usize);
+pub struct EdgeId(pub u32);
 
 /// The source nodes and the target nodes of an operation.
 pub type Interface = (Vec<NodeId>, Vec<NodeId>);
@@ -54,17 +51,17 @@ pub type Interface = (Vec<NodeId>, Vec<NodeId>);
 /// How many there are of each part of a graph.
 #[derive(Debug, Clone, Copy, PartialEq, Eq, Hash)]
 pub struct Sizes {
-    /// Nodes, at most 2,048.
+    /// Nodes, at most 16,384.
     pub nodes: usize,
-    /// Edges, at most 2,048.
+    /// Edges, at most 16,384.
     pub edges: usize,
-    /// Source and target entries of all edges, at most 8,192.
+    /// Source and target entries of all edges, at most 65,536.
     pub ports: usize,
-    /// Global source entries, at most 1,024.
+    /// Global source entries, at most 8,192.
     pub sources: usize,
-    /// Global target entries, at most 1,024.
+    /// Global target entries, at most 8,192.
     pub targets: usize,
-    /// Pending pairs, at most 1,024.
+    /// Pending pairs, at most 8,192.
     pub pairs: usize,
 }
 
@@ -78,7 +75,7 @@ pub struct Choice {
 }
 
 /// A drawing as its stored bytes, which are always a valid form. One graph has one form, so equal graphs have equal
-/// bytes.
+/// bytes: version 1 of the stored form where the graph fits it, else version 2. Ids and their lists are the same in both.
 #[derive(Debug, Clone, PartialEq, Eq, Hash)]
 pub struct Graph {
     form: Vec<u8>,
@@ -88,7 +85,8 @@ impl Graph {
     /// The graph that these bytes store.
     ///
     /// Refused: [`NoHeader`](Refusal::NoHeader), [`NoMark`](Refusal::NoMark), [`OtherVersion`](Refusal::OtherVersion),
-    /// [`OverLimit`](Refusal::OverLimit), [`OtherLength`](Refusal::OtherLength), [`ForeignId`](Refusal::ForeignId).
+    /// [`OverLimit`](Refusal::OverLimit), [`OtherLength`](Refusal::OtherLength), [`ForeignId`](Refusal::ForeignId),
+    /// [`OtherForm`](Refusal::OtherForm).
     pub fn from_bytes(bytes: impl Into<Vec<u8>>) -> Result<Graph, Refusal> {
         let form = bytes.into();
         read(&form)?;
@@ -153,7 +151,7 @@ impl Graph {
         sources: &[NodeId],
         targets: &[NodeId],
     ) -> Result<EdgeId, Refusal> {
-        let (sources, targets) = (node_ids(sources), node_ids(targets));
+        let (sources, targets) = (self.node_ids(sources), self.node_ids(targets));
         let edge = self
             .replace(|form, lent| ohg_new_edge(form, label, &sources, &targets, &mut lent.form))?;
         Ok(EdgeId(edge))
@@ -168,26 +166,21 @@ impl Graph {
         sources: &[u32],
         targets: &[u32],
     ) -> Result<(EdgeId, Interface), Refusal> {
-        let first = self.sizes().nodes;
-        let middle = first + sources.len();
-        let end = middle + targets.len();
-        let (sources, targets) = (labels(sources), labels(targets));
+        let mut fresh = (self.node_count()..).map(NodeId);
+        let (source_labels, target_labels) = (labels(sources), labels(targets));
         let edge = self.replace(|form, lent| {
-            ohg_new_operation(form, label, &sources, &targets, &mut lent.form)
+            ohg_new_operation(form, label, &source_labels, &target_labels, &mut lent.form)
         })?;
-        let interface = (
-            (first..middle).map(NodeId).collect(),
-            (middle..end).map(NodeId).collect(),
-        );
-        Ok((EdgeId(edge), interface))
+        let sources = fresh.by_ref().take(sources.len()).collect();
+        let targets = fresh.take(targets.len()).collect();
+        Ok((EdgeId(edge), (sources, targets)))
     }
 
     /// Adds a pending pair of nodes. No labels are compared.
     ///
     /// Refused: [`BadList`](Refusal::BadList), [`ResultLimit`](Refusal::ResultLimit).
     pub fn unify(&mut self, v: NodeId, w: NodeId) -> Result<(), Refusal> {
-        let (v, w) = (single(v.0), single(w.0));
-        self.replace(|form, lent| ohg_unify(form, v, w, &mut lent.form))?;
+        self.replace(|form, lent| ohg_unify(form, v.0, w.0, &mut lent.form))?;
         Ok(())
     }
 
@@ -195,9 +188,8 @@ impl Graph {
     ///
     /// Refused: [`BadList`](Refusal::BadList), [`ResultLimit`](Refusal::ResultLimit).
     pub fn add_edge_source(&mut self, edge: EdgeId, label: u32) -> Result<NodeId, Refusal> {
-        let edge = single(edge.0);
         let node =
-            self.replace(|form, lent| ohg_add_edge_source(form, edge, label, &mut lent.form))?;
+            self.replace(|form, lent| ohg_add_edge_source(form, edge.0, label, &mut lent.form))?;
         Ok(NodeId(node))
     }
 
@@ -205,9 +197,8 @@ impl Graph {
     ///
     /// Refused: [`BadList`](Refusal::BadList), [`ResultLimit`](Refusal::ResultLimit).
     pub fn add_edge_target(&mut self, edge: EdgeId, label: u32) -> Result<NodeId, Refusal> {
-        let edge = single(edge.0);
         let node =
-            self.replace(|form, lent| ohg_add_edge_target(form, edge, label, &mut lent.form))?;
+            self.replace(|form, lent| ohg_add_edge_target(form, edge.0, label, &mut lent.form))?;
         Ok(NodeId(node))
     }
 
@@ -215,7 +206,7 @@ impl Graph {
     ///
     /// Refused: [`BadList`](Refusal::BadList).
     pub fn delete_edges(&mut self, edges: &[EdgeId]) -> Result<(), Refusal> {
-        let ids = ids(edges.iter().map(|edge| edge.0));
+        let ids = self.ids(edges.iter().map(|edge| edge.0));
         self.replace(|form, lent| ohg_delete_edges(form, &ids, &mut lent.form, &mut lent.room))?;
         Ok(())
     }
@@ -225,16 +216,14 @@ impl Graph {
     ///
     /// Refused: [`BadList`](Refusal::BadList).
     pub fn delete_nodes(&mut self, nodes: &[NodeId]) -> Result<Vec<Option<NodeId>>, Refusal> {
-        let ids = node_ids(nodes);
-        let mut map = [0; LIST_BYTES];
-        let entries = self.replace(|form, lent| {
+        // Of the graph as it is read: what is left of it may be of the other version.
+        let (width, gone) = (self.width(), self.gone());
+        let (ids, mut map) = (self.node_ids(nodes), self.entry_for_each());
+        self.replace(|form, lent| {
             ohg_delete_nodes(form, &ids, &mut lent.form, &mut map, &mut lent.room)
         })?;
-        let kept = |entry| match number(entry) {
-            GONE => None,
-            id => Some(NodeId(id)),
-        };
-        Ok(map[..2 * entries].chunks_exact(2).map(kept).collect())
+        let kept = |entry| Some(number(entry)).filter(|&id| id != gone).map(NodeId);
+        Ok(map.chunks_exact(width).map(kept).collect())
     }
 
     /// Chooses nodes that every directed cycle passes through: spiderizing them leaves none. They need not be the
@@ -242,14 +231,15 @@ impl Graph {
     ///
     /// Refused: [`PendingPair`](Refusal::PendingPair).
     pub fn cycle_breaking_nodes(&self) -> Result<Choice, Refusal> {
-        let mut list = [0; LIST_BYTES];
+        let mut list = self.entry_for_each();
         let packed = lent::with(|l| ohg_cycle_breaking_nodes(&self.form, &mut list, &mut l.room));
         let (count, free) = answered(packed)?;
-        let nodes = list[..2 * count]
-            .chunks_exact(2)
-            .map(|id| NodeId(number(id)));
-        let nodes = nodes.collect();
-        Ok(Choice { nodes, free })
+        let nodes = list.chunks_exact(self.width()).take(count);
+        let nodes = nodes.map(|id| NodeId(number(id))).collect();
+        Ok(Choice {
+            nodes,
+            free: free as usize,
+        })
     }
 
     /// The graph with the wiring of all nodes made explicit by spiders.
@@ -264,7 +254,7 @@ impl Graph {
     /// Refused: [`BadList`](Refusal::BadList), [`PendingPair`](Refusal::PendingPair),
     /// [`ResultLimit`](Refusal::ResultLimit).
     pub fn spiderize_nodes(&self, nodes: &[NodeId]) -> Result<Graph, Refusal> {
-        let ids = node_ids(nodes);
+        let ids = self.node_ids(nodes);
         Graph::made(|lent| ohg_spiderize_nodes(&self.form, &ids, &mut lent.form, &mut lent.room))
     }
 
@@ -297,12 +287,51 @@ impl Graph {
     }
 
     /// Becomes the graph that a call on this one answers, and gives the number answered beside it.
-    fn replace(&mut self, call: impl FnOnce(&[u8], &mut Lent) -> u64) -> Result<usize, Refusal> {
+    fn replace(&mut self, call: impl FnOnce(&[u8], &mut Lent) -> u64) -> Result<u32, Refusal> {
         lent::with(|lent| {
             let (bytes, beside) = answered(call(&self.form, lent))?;
             lent.form[..bytes].clone_into(&mut self.form);
             Ok(beside)
         })
+    }
+
+    /// The bytes of a count and of an id, in the form and in the lists and maps of calls on this graph: `ohg_width`.
+    fn width(&self) -> usize {
+        match self.form[3] {
+            1 => 2,
+            _ => 4,
+        }
+    }
+
+    /// The node count, which stands after the mark and the version.
+    fn node_count(&self) -> u32 {
+        number(&self.form[5..][..self.width()])
+    }
+
+    /// What stands in the map of a deletion for a node that went.
+    fn gone(&self) -> u32 {
+        match self.width() {
+            2 => u16::MAX.into(),
+            _ => u32::MAX,
+        }
+    }
+
+    /// A list or map that a call on this graph is to fill: no longer than an entry for each node.
+    fn entry_for_each(&self) -> Vec<u8> {
+        vec![0; self.width() * self.node_count() as usize]
+    }
+
+    /// A list of ids as a call on this graph takes it. One that does not fit becomes the highest that does: no graph has
+    /// that one, so it is refused as well.
+    fn ids(&self, list: impl Iterator<Item = u32>) -> Vec<u8> {
+        let (width, highest) = (self.width(), self.gone());
+        list.flat_map(|id| id.min(highest).to_le_bytes().into_iter().take(width))
+            .collect()
+    }
+
+    /// A list of node ids as a call on this graph takes it.
+    fn node_ids(&self, list: &[NodeId]) -> Vec<u8> {
+        self.ids(list.iter().map(|node| node.0))
     }
 }
 
@@ -311,7 +340,7 @@ fn read(form: &[u8]) -> Result<Sizes, Refusal> {
     let mut sizes = [0; 24];
     answered(ohg_read(form, &mut sizes))?;
     let [nodes, edges, ports, sources, targets, pairs] =
-        array::from_fn(|i| number(&sizes[4 * i..][..4]));
+        array::from_fn(|i| number(&sizes[4 * i..][..4]) as usize);
     Ok(Sizes {
         nodes,
         edges,
@@ -323,29 +352,12 @@ fn read(form: &[u8]) -> Result<Sizes, Refusal> {
 }
 
 /// The number that these bytes store.
-fn number(bytes: &[u8]) -> usize {
-    let higher = |n, &byte| n << 8 | usize::from(byte);
+fn number(bytes: &[u8]) -> u32 {
+    let higher = |n, &byte| n << 8 | u32::from(byte);
     bytes.iter().rev().fold(0, higher)
 }
 
 /// A list of labels as a call takes it.
 fn labels(list: &[u32]) -> Vec<u8> {
     list.iter().flat_map(|label| label.to_le_bytes()).collect()
-}
-
-/// A list of ids as a call takes it, 2 bytes each. No graph has 65,535 nodes or edges, so an id that does not fit is
-/// refused as that one is.
-fn ids(list: impl Iterator<Item = usize>) -> Vec<u8> {
-    let narrow = |id| u16::try_from(id).unwrap_or(u16::MAX);
-    list.flat_map(|id| narrow(id).to_le_bytes()).collect()
-}
-
-/// A list of node ids as a call takes it.
-fn node_ids(list: &[NodeId]) -> Vec<u8> {
-    ids(list.iter().map(|node| node.0))
-}
-
-/// A single id as a call takes it; one that does not fit is refused as the highest is.
-fn single(id: usize) -> u32 {
-    u32::try_from(id).unwrap_or(u32::MAX)
 }

@@ -9,39 +9,42 @@ pub enum Refusal {
     NoHeader = 1,
     /// The first three bytes are not `OHG`.
     NoMark = 2,
-    /// The version is not 1.
+    /// The version is neither 1 nor 2.
     OtherVersion = 3,
-    /// A count in the header, or the sum of the ports, is above its limit.
+    /// A count in the header, or the sum of the ports, is above its version's limit.
     OverLimit = 4,
     /// The length is not what the counts call for.
     OtherLength = 5,
     /// A stored node id is not below the node count.
     ForeignId = 6,
+    /// A form of version 2 whose graph fits version 1: one graph has one form.
+    OtherForm = 13,
     /// An id in the call is not below its count.
     BadList = 7,
     /// The graph has a pending pair, and the operation needs none.
     PendingPair = 8,
-    /// The result would pass a limit.
+    /// The result would pass a limit of version 2.
     ResultLimit = 9,
     /// A buffer or work room was too short. This crate lends enough for the library that it belongs to.
     ShortBuffer = 10,
 }
 
 impl Refusal {
-    const ALL: [Refusal; 10] = [
+    const ALL: [Refusal; 11] = [
         Refusal::NoHeader,
         Refusal::NoMark,
         Refusal::OtherVersion,
         Refusal::OverLimit,
         Refusal::OtherLength,
         Refusal::ForeignId,
+        Refusal::OtherForm,
         Refusal::BadList,
         Refusal::PendingPair,
         Refusal::ResultLimit,
         Refusal::ShortBuffer,
     ];
 
-    /// The refusal's number, 1 to 10.
+    /// The refusal's number, 1 to 10 or 13.
     pub fn number(self) -> u8 {
         self as u8
     }
@@ -62,7 +65,7 @@ impl fmt::Display for Refusal {
                 "the first three bytes are not `OHG`; check that this is a stored form"
             }
             Refusal::OtherVersion => {
-                "the version is not 1; use the library of the newer tool that wrote it"
+                "the version is neither 1 nor 2; use the library of the newer tool that wrote it"
             }
             Refusal::OverLimit => "a count is above its limit; split the drawing",
             Refusal::OtherLength => {
@@ -70,6 +73,9 @@ impl fmt::Display for Refusal {
             }
             Refusal::ForeignId => {
                 "a stored node id is not below the node count; get the file again, undamaged"
+            }
+            Refusal::OtherForm => {
+                "a form of version 2 whose graph fits version 1; write it by version 1"
             }
             Refusal::BadList => {
                 "an id in the call is not below its count; check the list against the graph's sizes"

@@ -3,16 +3,16 @@
 use ohg::{Choice, EdgeId, Graph, NodeId, Refusal, Sizes, SPIDER};
 use std::thread;
 
-fn nodes(ids: &[usize]) -> Vec<NodeId> {
+fn nodes(ids: &[u32]) -> Vec<NodeId> {
     ids.iter().copied().map(NodeId).collect()
 }
 
 /// Nodes of label 7, and edges as their labels, sources and targets.
-fn drawn(count: usize, edges: &[(u32, &[usize], &[usize])]) -> Graph {
+fn drawn(count: usize, edges: &[(u32, &[u32], &[u32])]) -> Graph {
     let mut graph = Graph::discrete(&vec![7; count]).unwrap();
-    for (i, &(label, sources, targets)) in edges.iter().enumerate() {
+    for (&(label, sources, targets), id) in edges.iter().zip(0..) {
         let edge = graph.new_edge(label, &nodes(sources), &nodes(targets));
-        assert_eq!(edge, Ok(EdgeId(i)));
+        assert_eq!(edge, Ok(EdgeId(id)));
     }
     graph
 }
@@ -25,17 +25,28 @@ fn p6() -> Graph {
     drawn(2, &[(9, &[0], &[1]), (10, &[1], &[0])])
 }
 
+/// P6 on the last two of so many nodes that the form is of version 2.
+fn larger_p6() -> Graph {
+    drawn(2050, &[(9, &[2048], &[2049]), (10, &[2049], &[2048])])
+}
+
 fn p7() -> Graph {
     drawn(3, &[(9, &[0], &[0, 1, 1]), (10, &[1, 1, 2], &[2])])
 }
 
-/// A form of these numbers, each 2 bytes, after the mark and the version.
+/// A form of version 1 of these numbers, each 2 bytes, after the mark and the version.
 fn stored(numbers: &[u16]) -> Vec<u8> {
     let numbers = numbers.iter().flat_map(|n| n.to_le_bytes());
     b"OHG\x01\0".iter().copied().chain(numbers).collect()
 }
 
-fn chosen(ids: &[usize], free: usize) -> Result<Choice, Refusal> {
+/// A form of version 2 of these numbers, each 4 bytes, after the mark and the version.
+fn stored_larger(numbers: &[u32]) -> Vec<u8> {
+    let numbers = numbers.iter().flat_map(|n| n.to_le_bytes());
+    b"OHG\x02\0".iter().copied().chain(numbers).collect()
+}
+
+fn chosen(ids: &[u32], free: usize) -> Result<Choice, Refusal> {
     let nodes = nodes(ids);
     Ok(Choice { nodes, free })
 }
@@ -168,7 +179,7 @@ fn broken_bytes_are_refused() {
     assert_eq!(refused(&header[..14]), Refusal::NoHeader);
     assert_eq!(refused(&[0; 15]), Refusal::NoMark);
     assert_eq!(
-        refused(b"OHG\x02\0\0\0\0\0\0\0\0\0\0\0"),
+        refused(b"OHG\x03\0\0\0\0\0\0\0\0\0\0\0"),
         Refusal::OtherVersion
     );
     assert_eq!(refused(&stored(&[2049, 0, 0, 0, 0])), Refusal::OverLimit);
@@ -178,10 +189,31 @@ fn broken_bytes_are_refused() {
 }
 
 #[test]
+fn broken_bytes_of_version_2_are_refused() {
+    let refused = |bytes: &[u8]| Graph::from_bytes(bytes).unwrap_err();
+    let over = stored_larger(&[16_385, 0, 0, 0, 0]);
+    assert_eq!(refused(&over[..14]), Refusal::NoHeader);
+    assert_eq!(refused(&over[..24]), Refusal::OtherLength);
+    assert_eq!(refused(&over), Refusal::OverLimit);
+    let foreign = stored_larger(&[1, 0, 1, 0, 0, 7, 1]);
+    assert_eq!(refused(&foreign), Refusal::ForeignId);
+    let fits_version_1 = stored_larger(&[1, 0, 1, 0, 0, 7, 0]);
+    assert_eq!(refused(&fits_version_1), Refusal::OtherForm);
+}
+
+#[test]
 fn ids_that_are_not_there_are_refused_and_never_cut_to_size() {
-    let mut graph = p6();
-    for id in [2, 65_535, 65_536, 1 << 32] {
-        let (node, edge) = (NodeId(id), EdgeId(id));
+    for graph in [p6(), larger_p6()] {
+        refuses_foreign_ids(graph);
+    }
+}
+
+fn refuses_foreign_ids(whole: Graph) {
+    let mut graph = whole.clone();
+    let Sizes { nodes, edges, .. } = whole.sizes();
+    let above = |count: usize| [count as u32, 65_535, 65_536, u32::MAX];
+    for (node, edge) in above(nodes).into_iter().zip(above(edges)) {
+        let (node, edge) = (NodeId(node), EdgeId(edge));
         assert_eq!(graph.new_edge(9, &[node], &[]), Err(Refusal::BadList));
         assert_eq!(graph.new_edge(9, &[], &[node]), Err(Refusal::BadList));
         assert_eq!(graph.unify(node, NodeId(0)), Err(Refusal::BadList));
@@ -192,7 +224,7 @@ fn ids_that_are_not_there_are_refused_and_never_cut_to_size() {
         assert_eq!(graph.delete_nodes(&[node]), Err(Refusal::BadList));
         assert_eq!(graph.spiderize_nodes(&[node]), Err(Refusal::BadList));
     }
-    assert_eq!(graph, p6());
+    assert_eq!(graph, whole);
 }
 
 #[test]
@@ -209,9 +241,9 @@ fn a_pending_pair_is_refused_where_none_may_be() {
 
 #[test]
 fn results_past_a_limit_are_refused() {
-    assert_eq!(Graph::discrete(&[7; 2049]), Err(Refusal::ResultLimit));
-    assert_eq!(Graph::identity(&[7; 1025]), Err(Refusal::ResultLimit));
-    let full = Graph::discrete(&[7; 2048]).unwrap();
+    assert_eq!(Graph::discrete(&[7; 16_385]), Err(Refusal::ResultLimit));
+    assert_eq!(Graph::identity(&[7; 8193]), Err(Refusal::ResultLimit));
+    let full = Graph::discrete(&[7; 16_384]).unwrap();
     let mut graph = full.clone();
     assert_eq!(graph.new_node(7), Err(Refusal::ResultLimit));
     let operation = graph.new_operation(9, &[7], &[]);
@@ -219,12 +251,89 @@ fn results_past_a_limit_are_refused() {
     assert_eq!(graph, full);
     let long = p2().new_edge(9, &vec![NodeId(0); 70_000], &[]);
     assert_eq!(long, Err(Refusal::ResultLimit));
-    let edges = Graph::singleton(9, &[7; 1024], &[7; 1024]).unwrap();
+    let edges = Graph::singleton(9, &[7; 8192], &[7; 8192]).unwrap();
     assert_eq!(edges.spiderize(), Err(Refusal::ResultLimit));
 }
 
 #[test]
+fn a_drawing_outgrows_version_1_and_comes_back() {
+    let full = drawn(2048, &[(9, &[2047], &[0])]);
+    assert_eq!(full.as_bytes()[..5], *b"OHG\x01\0");
+    let mut graph = full.clone();
+    assert_eq!(graph.new_node(8), Ok(NodeId(2048)));
+    let mut numbers = vec![2049, 1, 0, 0, 0];
+    numbers.extend([7; 2048]);
+    numbers.extend([8, 9, 1, 1, 2047, 0]);
+    assert_eq!(graph.as_bytes(), stored_larger(&numbers));
+    assert_eq!(
+        Graph::from_bytes(stored_larger(&numbers)).as_ref(),
+        Ok(&graph)
+    );
+
+    let edge = graph.new_edge(10, &nodes(&[0]), &nodes(&[2048, 2047]));
+    assert_eq!(edge, Ok(EdgeId(1)));
+    let operation = graph.new_operation(4, &[7], &[7, 7]);
+    let interface = (nodes(&[2049]), nodes(&[2050, 2051]));
+    assert_eq!(operation, Ok((EdgeId(2), interface)));
+    assert_eq!(graph.delete_edges(&[EdgeId(2), EdgeId(1)]), Ok(()));
+
+    // The map has an entry for each of the nodes that were read, of version 2, though what is left is of version 1.
+    let map = graph.delete_nodes(&nodes(&[2051, 2048, 2049, 2050]));
+    let stayed = (0..2048).map(|id| Some(NodeId(id)));
+    assert_eq!(map, Ok(stayed.chain([None; 4]).collect()));
+    assert_eq!(graph, full);
+}
+
+#[test]
+fn a_deletion_that_stays_in_version_2_says_where_nodes_went() {
+    let mut graph = larger_p6();
+    let map = graph.delete_nodes(&nodes(&[5])).unwrap();
+    assert_eq!(map.len(), 2050);
+    assert_eq!(map[4..7], [Some(NodeId(4)), None, Some(NodeId(5))]);
+    assert_eq!(map[2049], Some(NodeId(2048)));
+    let smaller = drawn(2049, &[(9, &[2047], &[2048]), (10, &[2048], &[2047])]);
+    assert_eq!(graph, smaller);
+}
+
+#[test]
+fn loops_are_cut_in_version_2() {
+    let graph = larger_p6();
+    let choice = graph.cycle_breaking_nodes();
+    assert_eq!(choice, chosen(&[2048], 2051));
+    assert_eq!(graph.no_loop(), Ok(false));
+    let cut = graph.spiderize_nodes(&nodes(&[2048])).unwrap();
+    assert_eq!((cut.sizes().nodes, cut.no_loop()), (2052, Ok(true)));
+}
+
+#[test]
+fn version_1_outgrown_by_spiders_is_answered_in_version_2() {
+    // Each of the 2,048 nodes has two entries, and so gets two fresh nodes and two spiders, of four ports in all.
+    let edge = Graph::singleton(9, &[7; 1024], &[7; 1024]).unwrap();
+    assert_eq!(edge.as_bytes()[3], 1);
+    let explicit = edge.spiderize().unwrap();
+    assert_eq!(explicit.as_bytes()[3], 2);
+    let sizes = explicit.sizes();
+    assert_eq!((sizes.nodes, sizes.edges), (3 * 2048, 1 + 2 * 2048));
+    assert_eq!(sizes.ports, 2048 + 4 * 2048);
+    assert_eq!(explicit.once_fed(), Ok(true));
+}
+
+#[test]
 fn the_largest_form_fits() {
+    let mut numbers = vec![16_384, 16_384, 8192, 8192, 8192];
+    numbers.extend([7; 16_384 + 16_384]); // labels
+    numbers.extend([2, 2, 0, 1, 2, 3].repeat(16_384)); // 65,536 ports
+    numbers.extend([16_383; 8192 + 8192 + 2 * 8192]); // global lists and pairs
+    let bytes = stored_larger(&numbers);
+    assert_eq!(bytes.len(), 655_385);
+    let mut graph = Graph::from_bytes(bytes.clone()).unwrap();
+    assert_eq!(graph.delete_edges(&[]), Ok(()));
+    assert_eq!(graph.delete_nodes(&[]).unwrap().len(), 16_384);
+    assert_eq!(graph.as_bytes(), bytes);
+}
+
+#[test]
+fn the_largest_form_of_version_1_fits() {
     let mut numbers = vec![2048, 2048, 1024, 1024, 1024];
     numbers.extend([7; 2 * (2048 + 2048)]); // labels
     numbers.extend([2, 2, 0, 1, 2, 3].repeat(2048)); // 8,192 ports
@@ -250,4 +359,6 @@ fn a_refusal_says_its_number_and_what_to_do() {
         "7: an id in the call is not below its count; check the list against the graph's sizes";
     assert_eq!(Refusal::BadList.to_string(), text);
     assert_eq!(Refusal::BadList.number(), 7);
+    let text = "13: a form of version 2 whose graph fits version 1; write it by version 1";
+    assert_eq!(Refusal::OtherForm.to_string(), text);
 }
