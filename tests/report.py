@@ -16,13 +16,14 @@ SPIDER = 4294967295
 
 
 def form(nodes, edges, sources=(), targets=(), pairs=(), version=1, mark=b"OHG"):
-    """The stored form of a drawing: node labels, edges as (label, sources, targets), global lists, pairs."""
-    ids = lambda xs: struct.pack(f"<{len(xs)}H", *xs)
-    counts = [version, len(nodes), len(edges), len(sources), len(targets), len(pairs)]
+    """The stored form of a drawing: node labels, edges as (label, sources, targets), global lists, pairs. In version 2 counts and ids have 4 bytes."""
+    width = "I" if version == 2 else "H"
+    ids = lambda xs: struct.pack(f"<{len(xs)}{width}", *xs)
+    counts = [len(nodes), len(edges), len(sources), len(targets), len(pairs)]
     labels = [*nodes, *(label for label, _, _ in edges)]
     body = [ids([len(s), len(t), *s, *t]) for _, s, t in edges]
     ends = [*sources, *targets, *(end for pair in pairs for end in pair)]
-    return mark + ids(counts) + struct.pack(f"<{len(labels)}I", *labels) + b"".join(body) + ids(ends)
+    return mark + struct.pack("<H", version) + ids(counts) + struct.pack(f"<{len(labels)}I", *labels) + b"".join(body) + ids(ends)
 
 
 def header(nodes=0, edges=0, sources=0, targets=0, pairs=0):
@@ -105,8 +106,18 @@ def cases():
     yield "fourteen-other-bytes", b"x" * 14, 1
     yield "no-mark", form(*P7, mark=b"OHX"), 2
     yield "no-mark-nor-version", form(*P7, mark=b"ohg", version=9), 2
-    for version in 0, 2, 257:
+    for version in 0, 3, 256, 257, 258, 512, 513, 65535:
         yield f"version-{version}", form(*P7, version=version), 3
+    # the program stays with version 1: of the other it looks at no more than the mark and the version, once there are 15 bytes
+    in_2 = form(*P7, version=2)
+    yield "version-2", in_2, 3
+    yield "version-2-outgrown", form([7] * 2049, P7[1], version=2), 3
+    for length in (14, 15, 16, 24, 25, len(in_2) - 1):
+        yield f"version-2-cut-at-{length}", in_2[:length], 1 if length < 15 else 3
+    yield "version-2-counts-over", in_2[:5] + b"\xff" * 20, 3
+    yield "version-2-and-one", in_2 + b"\0", 3
+    yield "version-2-unknown-id", form([7], [(0, [1], [])], version=2), 3
+    yield "version-2-no-mark", form(*P7, version=2, mark=b"OHX"), 2
     for name, limit in ("nodes", 2048), ("edges", 2048), ("sources", 1024), ("targets", 1024), ("pairs", 1024):
         yield f"{name}-over", header(**{name: limit + 1}), 4
         yield f"{name}-all-missing", header(**{name: limit}), 5
@@ -148,7 +159,14 @@ def cases():
     loops = [(0, [v, v], [v, v]) for v in range(2048)]
     yield "all-cut", form(nodes, loops), report(nodes, loops)
 
-    # longer than any form: what is said of the front is said of all, however much follows
+    # the largest drawing of version 2, longer than what the program reads
+    loops = [(0, [v, v], [v, v]) for v in range(16384)]
+    zeros = [0] * 8192
+    in_2 = form([7] * 16384, loops, zeros, zeros, [(0, 0)] * 8192, version=2)
+    assert len(in_2) == 655385
+    yield "version-2-largest", in_2, 3
+
+    # longer than any form of version 1: what is said of the front is said of all, however much follows
     yield "longest-and-one", largest + b"\0", 5
     yield "longest-and-more", largest + bytes(150833), 5
     yield "buffer-full", largest + bytes(65536 - 49167), 5

@@ -21,15 +21,15 @@ size_t fitted(uint8_t fit, size_t exact, size_t most) {
     case 1: len = exact ? exact - 1 : 0; break;
     case 2: len = exact; break;
     case 3: len = exact + 1; break;
-    case 4: len = most; break;
+    case 4: len = exact + 32768; break;
     default: len = exact * fit / 255; break;
     }
     return len < most ? len : most;
 }
 
 void ample(const struct call *c, size_t length[LENGTHS]) {
-    /* each node of 4 bytes becomes at most a node and two edges, 24; each entry of 2 at most a node and two entries, 8 */
-    size_t len = 64 + 6 * c->src.len + 4 * (c->list[0].len + c->list[1].len);
+    /* each node of 4 bytes becomes at most a node and two edges, in version 2 36; each entry of 2 at most a node and two entries, 12 */
+    size_t len = 64 + 9 * c->src.len + 4 * (c->list[0].len + c->list[1].len);
     for (int i = 0; i < OUTS; i++) length[i] = len < OUT_MOST ? len : OUT_MOST;
     length[OUTS] = functions[c->function].room;
 }
@@ -45,12 +45,22 @@ static uint64_t follow(struct desk *d, unsigned function, struct slice src, stru
     return returned;
 }
 
+/* Whether these sizes are within so many times the limits of version 1; those of version 2 are eight times as much. */
+static bool within(const uint8_t *sizes, uint32_t times) {
+    static const uint32_t limits[] = {2048, 2048, 8192, 1024, 1024, 1024};
+    for (int i = 0; i < 6; i++)
+        if (get(sizes + 4 * i, 4) > times * limits[i]) return false;
+    return true;
+}
+
 static struct graph read_graph(struct desk *d, struct slice src) {
     struct lent l;
     uint64_t returned = follow(d, READ, src, (struct slice){0}, &l);
     struct graph g = {.code = OHG_CODE(returned)};
     if (g.code) return g;
     const uint8_t *sizes = answered(d, &l, 0);
+    bool first = ohg_width(src.at, src.len) == 2;
+    if (within(sizes, 1) != first || !within(sizes, 8)) fail(functions[READ].name, "a graph has the one version that it fits");
     g.nodes = get(sizes, 4);
     g.edges = get(sizes + 4, 4);
     g.pairs = get(sizes + 20, 4);
@@ -65,13 +75,13 @@ static void check_numbers(const struct function *f, const struct graph *g, uint6
     if (f->second == FREE ? a > g->nodes || b > g->nodes + g->edges - a : b != due) fail(f->name, "b is what its comment says");
     if (f->answers == SIZES && a != OHG_SIZES_BYTES) fail(f->name, "the sizes have 24 bytes");
     if (f->answers == YES && a > 1) fail(f->name, "a check answers 0 or 1");
-    if ((f->answers == FORM || f->answers == FORM_AND_MAP) && (a < 15 || a > OHG_FORM_BYTES)) fail(f->name, "a form has 15 to 49,167 bytes");
+    if ((f->answers == FORM || f->answers == FORM_AND_MAP) && (a < 15 || a > OHG_FORM_BYTES)) fail(f->name, "a form has 15 to 655,385 bytes");
 }
 
 /* The refusals that follow from what ohg_read says of the graph. */
 static void check_code(const struct function *f, const struct graph *g, unsigned code) {
     if (code == OHG_SHORT_BUFFER) fail(f->name, "long buffers are not refused");
-    bool reading = code >= OHG_NO_HEADER && code <= OHG_FOREIGN_ID;
+    bool reading = (code >= OHG_NO_HEADER && code <= OHG_FOREIGN_ID) || code == OHG_OTHER_FORM;
     if (g->code ? code != g->code : reading) fail(f->name, "every function reads the graph alike");
     if (code == OHG_PENDING_PAIR && !g->pairs) fail(f->name, "8 is for a graph with a pair");
     bool needs_none = f->codes >> OHG_PENDING_PAIR & 1;
@@ -89,12 +99,12 @@ static uint32_t check_form(struct desk *d, const struct function *f, struct slic
     return g.nodes;
 }
 
-/* The nodes that stay are numbered in order. */
-static void check_map(const struct function *f, struct slice map, uint32_t stay) {
-    uint32_t next = 0;
-    for (size_t i = 0; i < map.len; i += 2) {
-        uint32_t to = get(map.at + i, 2);
-        if (to != 0xFFFF && to != next++) fail(f->name, "the map numbers what stays in order");
+/* The nodes that stay are numbered in order, in ids as wide as those of the graph that was read. */
+static void check_map(const struct function *f, struct slice map, uint32_t width, uint32_t stay) {
+    uint32_t next = 0, gone = width == 2 ? OHG_GONE_1 : OHG_GONE;
+    for (size_t i = 0; i < map.len; i += width) {
+        uint32_t to = get(map.at + i, width);
+        if (to != gone && to != next++) fail(f->name, "the map numbers what stays in order");
     }
     if (next != stay) fail(f->name, "the map numbers each node of the answer");
 }
@@ -109,9 +119,10 @@ static bool yes(struct desk *d, struct slice form) {
 /* The chosen list ascends, is empty only without a loop, and breaks every loop, by deleting and by spiderizing. */
 static void check_list(struct desk *d, const struct function *f, struct slice src, struct slice list, const struct graph *g) {
     static uint8_t kept[OUT_MOST];
-    for (size_t i = 0; i < list.len; i += 2) {
-        if (get(list.at + i, 2) >= g->nodes) fail(f->name, "the list has nodes of the graph");
-        if (i && get(list.at + i - 2, 2) >= get(list.at + i, 2)) fail(f->name, "the list ascends");
+    uint32_t width = ohg_width(src.at, src.len);
+    for (size_t i = 0; i < list.len; i += width) {
+        if (get(list.at + i, width) >= g->nodes) fail(f->name, "the list has nodes of the graph");
+        if (i && get(list.at + i - width, width) >= get(list.at + i, width)) fail(f->name, "the list ascends");
     }
     if (yes(d, src) != (list.len == 0)) fail(f->name, "the list is empty exactly when there is no loop");
     static const unsigned cuts[] = {DELETE_NODES, SPIDERIZE_NODES};
@@ -156,7 +167,7 @@ static void check_answer(struct desk *d, const struct call *c, const struct outc
     check_numbers(f, g, o->returned);
     if (f->answers == FORM || f->answers == FORM_AND_MAP) {
         uint32_t nodes = check_form(d, f, first);
-        if (f->answers == FORM_AND_MAP) check_map(f, second, nodes);
+        if (f->answers == FORM_AND_MAP) check_map(f, second, ohg_width(c->src.at, c->src.len), nodes);
     }
     bool same = first.len == c->src.len && memcmp(first.at, c->src.at, first.len) == 0;
     if (c->function == REWRITE && !same) fail(f->name, "it gives the bytes that it read");
@@ -175,7 +186,7 @@ void run_case(struct desk *d, const struct call *c, struct outcome *o) {
     take_inputs_back(&l);
     check_code(f, &g, OHG_CODE(o->returned));
     for (int i = 0; i < OUTS; i++) {
-        o->len[i] = i < f->outs ? written(f, o->returned, i) : 0;
+        o->len[i] = i < f->outs ? written(f, ohg_width(c->src.at, c->src.len), o->returned, i) : 0;
         if (o->len[i]) memcpy(o->bytes[i], answered(d, &l, i), o->len[i]);
     }
     call_again(d, c, o);

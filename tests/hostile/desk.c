@@ -130,18 +130,19 @@ const uint8_t *answered(const struct desk *d, const struct lent *l, int out) {
     return own(&d->out[out], l->out[out]);
 }
 
-size_t written(const struct function *f, uint64_t returned, int out) {
+size_t written(const struct function *f, uint32_t width, uint64_t returned, int out) {
     if (OHG_CODE(returned) != OHG_DONE) return 0;
-    if (out == 1) return 2 * (size_t)OHG_B(returned);
-    return f->answers == LIST ? 2 * (size_t)OHG_A(returned) : OHG_A(returned);
+    if (out == 1) return width * (size_t)OHG_B(returned);
+    return f->answers == LIST ? width * (size_t)OHG_A(returned) : OHG_A(returned);
 }
 
 static void check_call(const struct desk *d, const struct function *f, const struct lent *l, uint64_t returned) {
     unsigned code = OHG_CODE(returned);
+    uint32_t width = ohg_width(l->src.at, l->src.len);
     if (code >= CODES || !(f->codes >> code & 1)) fail(f->name, "the code is one that is listed for the function");
     if (code != OHG_DONE && returned != code) fail(f->name, "a and b are 0 on a refusal");
     for (int i = 0; i < f->outs; i++) {
-        size_t len = l->out[i].len, n = written(f, returned, i);
+        size_t len = l->out[i].len, n = written(f, width, returned, i);
         if (n > len) fail(f->name, "the answer is not longer than its buffer");
         if (!is_set(l->out[i].at, n)) fail(f->name, "the arguments decide each byte of the answer");
         if (!all_are(answered(d, l, i) + n, len - n, d->fill))

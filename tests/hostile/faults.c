@@ -5,6 +5,8 @@
 
 #include "hostile.h"
 
+uint64_t __real_ohg_read(const uint8_t *src, size_t src_len, uint8_t *sizes, size_t sizes_len);
+uint64_t __wrap_ohg_read(const uint8_t *src, size_t src_len, uint8_t *sizes, size_t sizes_len);
 uint64_t __real_ohg_rewrite(const uint8_t *src, size_t src_len, uint8_t *out, size_t out_len);
 uint64_t __wrap_ohg_rewrite(const uint8_t *src, size_t src_len, uint8_t *out, size_t out_len);
 uint64_t __real_ohg_delete_nodes(const uint8_t *src, size_t src_len, const uint8_t *ids, size_t ids_len, uint8_t *out, size_t out_len, uint8_t *map,
@@ -57,6 +59,11 @@ uint64_t __wrap_ohg_rewrite(const uint8_t *src, size_t src_len, uint8_t *out, si
     return r;
 }
 
+/* Makes a map one of the width that the result has. */
+static void narrow(uint8_t *map, size_t entries, uint32_t width, uint32_t to) {
+    for (size_t i = 0; to < width && i < entries; i++) memcpy(map + to * i, map + width * i, to);
+}
+
 uint64_t __wrap_ohg_delete_nodes(const uint8_t *src, size_t src_len, const uint8_t *ids, size_t ids_len, uint8_t *out, size_t out_len, uint8_t *map,
                                  size_t map_len, uint8_t *room, size_t room_len) {
     uint8_t garbage = room_len ? *room : 0;
@@ -66,14 +73,25 @@ uint64_t __wrap_ohg_delete_nodes(const uint8_t *src, size_t src_len, const uint8
     case 15: room[-1] ^= 1; break;
     case 16: if (OHG_A(r) > 15) out[15] ^= garbage & 1; break;
     case 17: if (OHG_B(r)) map[0] ^= 1; break;
+    case 18: if (!OHG_CODE(r)) narrow(map, OHG_B(r), ohg_width(src, src_len), ohg_width(out, OHG_A(r))); break;
     }
     return r;
 }
 
 uint64_t __wrap_ohg_cycle_breaking_nodes(const uint8_t *src, size_t src_len, uint8_t *list, size_t list_len, uint8_t *room, size_t room_len) {
     uint64_t r = __real_ohg_cycle_breaking_nodes(src, src_len, list, list_len, room, room_len);
-    size_t n = OHG_A(r);
-    if (planted() == 18 && n > 1) memcpy(list + 2 * n - 2, list, 2);
-    if (planted() == 19 && n == 1 && list[0]) list[0] = 0;
+    size_t n = OHG_A(r), width = ohg_width(src, src_len);
+    if (planted() == 19 && n > 1) memcpy(list + width * (n - 1), list, width);
+    if (planted() == 20 && n == 1 && list[0]) list[0] = 0;
     return r;
+}
+
+/* Takes a form of version 2 whose graph fits version 1: of the sizes only the ports do not stand in its header. */
+uint64_t __wrap_ohg_read(const uint8_t *src, size_t src_len, uint8_t *sizes, size_t sizes_len) {
+    uint64_t r = __real_ohg_read(src, src_len, sizes, sizes_len);
+    if (planted() != 21 || r != OHG_OTHER_FORM || sizes_len < OHG_SIZES_BYTES) return r;
+    memcpy(sizes, src + 5, 8);
+    memset(sizes + 8, 0, 4);
+    memcpy(sizes + 12, src + 13, 12);
+    return OHG_SIZES_BYTES << 8;
 }

@@ -29,9 +29,9 @@ FUNCTION(cycle_breaking_nodes, SRC, OUT, ROOM)
 FUNCTION(no_loop, SRC, ROOM)
 FUNCTION(once_fed, SRC, ROOM)
 
-enum { DONE = 1 << 0, FORM_1_TO_6 = 0x7E, BAD_LIST = 1 << 7, PAIR = 1 << 8, LIMIT = 1 << 9, SHORT = 1 << 10 };
+enum { DONE = 1 << 0, FORM_1_TO_6 = 0x7E, BAD_LIST = 1 << 7, PAIR = 1 << 8, LIMIT = 1 << 9, SHORT = 1 << 10, OTHER_FORM = 1 << 13 };
 #define ALWAYS (DONE | SHORT)
-#define READS (ALWAYS | FORM_1_TO_6)
+#define READS (ALWAYS | FORM_1_TO_6 | OTHER_FORM)
 #define MAKES (ALWAYS | BAD_LIST | LIMIT)
 #define ROOM_OF(name) OHG_ROOM_##name
 

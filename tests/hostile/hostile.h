@@ -16,10 +16,10 @@
 #endif
 #endif
 
-enum { FUNCTIONS = 19, CODES = 11, LISTS = 2, OUTS = 2, LENGTHS = OUTS + 1, FITS = 8, GUARD = 256 };
+enum { FUNCTIONS = 19, CODES = 14, LISTS = 2, OUTS = 2, LENGTHS = OUTS + 1, FITS = 8, GUARD = 256 };
 
 /* The most bytes that are lent: more than any of them has a use for. */
-enum { SRC_MOST = 1 << 16, LIST_MOST = 1 << 19, OUT_MOST = OHG_FORM_BYTES + 1024, ROOM_MOST = OHG_ROOM_CYCLE_BREAKING_NODES + 4096 };
+enum { SRC_MOST = 700000, LIST_MOST = 1 << 19, OUT_MOST = OHG_FORM_BYTES + 1024, ROOM_MOST = OHG_ROOM_CYCLE_BREAKING_NODES + 4096 };
 
 struct slice {
     uint8_t *at;
@@ -107,8 +107,8 @@ void take_inputs_back(const struct lent *l);
 uint64_t call_once(struct desk *d, unsigned function, struct lent *l, const size_t length[LENGTHS], unsigned sides);
 /* The bytes of an answer buffer after a call. */
 const uint8_t *answered(const struct desk *d, const struct lent *l, int out);
-/* How many of them are the answer. */
-size_t written(const struct function *f, uint64_t returned, int out);
+/* How many of them are the answer, where ids have `width` bytes. */
+size_t written(const struct function *f, uint32_t width, uint64_t returned, int out);
 
 /* ---- cases.c: calls that belong together ---- */
 
@@ -123,7 +123,7 @@ struct outcome {
 void run_case(struct desk *d, const struct call *c, struct outcome *o);
 /* Lengths that are never too short. */
 void ample(const struct call *c, size_t length[LENGTHS]);
-/* A length that is 0, one short, exact, one more, the most, or any that is short. */
+/* A length that is 0, one short, exact, one more, many more, or any that is short. */
 size_t fitted(uint8_t fit, size_t exact, size_t most);
 
 /* ---- make.c: calls by chance ---- */

@@ -3,11 +3,14 @@
 
 #include "hostile.h"
 
-/* Forms that the port has answered, or that a corpus holds, by size: many small ones, since calls on them are quick. */
-enum { SHELVES = 3, SLOTS = 128 };
+/* How much there is of a graph. At a border one count is at a version's limit or beside it, and the others are small. */
+enum size { SMALL, MIDDLE, LARGE, LARGEST, BORDER };
 
-static const size_t shelf_bytes[SHELVES] = {320, 2560, OHG_FORM_BYTES};
-static const size_t shelf_slots[SHELVES] = {SLOTS, 48, 16};
+/* Forms that the port has answered, or that a corpus holds, by size: many small ones, since calls on them are quick. */
+enum { SHELVES = LARGEST + 1, SLOTS = 128 };
+
+static const size_t shelf_bytes[SHELVES] = {320, 2560, OHG_FORM_BYTES_1, OHG_FORM_BYTES};
+static const size_t shelf_slots[SHELVES] = {SLOTS, 48, 16, 8};
 
 struct shelf {
     uint8_t *bytes;
@@ -16,7 +19,7 @@ struct shelf {
 
 struct maker {
     struct random chance;
-    unsigned middle, large; /* how many in a thousand are to be so */
+    unsigned middle, large, largest, border; /* how many in a thousand are to be so */
     struct shelf shelves[SHELVES];
     uint8_t src[SRC_MOST], other[OHG_FORM_BYTES], list[LISTS][LIST_MOST];
 };
@@ -27,6 +30,8 @@ struct maker *new_maker(uint64_t seed) {
     m->chance.state = seed;
     m->middle = 100;
     m->large = 10;
+    m->largest = 1;
+    m->border = 60;
     for (int i = 0; i < SHELVES; i++) {
         m->shelves[i].bytes = malloc(shelf_slots[i] * shelf_bytes[i]);
         if (!m->shelves[i].bytes) abort();
@@ -55,15 +60,19 @@ void keep_answer(struct maker *m, const struct call *c, const struct outcome *o)
     if (form && OHG_CODE(o->returned) == OHG_DONE) keep_form(m, o->bytes[0], o->len[0]);
 }
 
-/* Small mostly: calls on the largest take a thousand times as long. */
-static int size_class(struct maker *m) {
-    uint64_t n = below(&m->chance, 1000);
-    return n < m->large ? 2 : n < m->large + m->middle ? 1 : 0;
+/* Small mostly: calls on the largest take ten thousand times as long. */
+static enum size size_class(struct maker *m) {
+    unsigned n = below(&m->chance, 1000), to = m->largest;
+    if (n < to) return LARGEST;
+    if (n < (to += m->large)) return LARGE;
+    if (n < (to += m->border)) return BORDER;
+    return n < to + m->middle ? MIDDLE : SMALL;
 }
 
 static size_t kept_form(struct maker *m, uint8_t *to) {
-    int i = size_class(m);
-    while (i > 0 && m->shelves[i].used == 0) i--;
+    enum size i = size_class(m);
+    if (i == BORDER) i = LARGE;
+    while (i > SMALL && m->shelves[i].used == 0) i--;
     struct shelf *s = &m->shelves[i];
     if (!s->used) return 0;
     size_t slot = below(&m->chance, s->used);
@@ -76,8 +85,10 @@ static uint8_t *put(uint8_t *at, uint32_t n, int bytes) {
     return at;
 }
 
-static uint32_t get2(const uint8_t *at) {
-    return at[0] | at[1] << 8;
+static uint32_t get(const uint8_t *at, int bytes) {
+    uint32_t n = 0;
+    while (bytes--) n = n << 8 | at[bytes];
+    return n;
 }
 
 /* Few different ones, so that equal labels occur; spiders among them. */
@@ -86,43 +97,51 @@ static uint32_t a_label(struct random *r) {
     return n == 0 ? 0xFFFFFFFF : n == 1 ? any(r) : below(r, 4);
 }
 
-/* A count: mostly few, sometimes about the limit. */
-static uint32_t a_count(struct random *r, int size, uint32_t limit) {
-    if (size == 0) return below(r, 6 + limit / 512);
-    if (size == 1) return below(r, limit / 32);
+/* A count: mostly few, sometimes about the limit, which is version 1's; version 2's is eight times as much. */
+static uint32_t a_count(struct random *r, enum size size, uint32_t limit) {
+    if (size == SMALL) return below(r, 6 + limit / 512);
+    if (size == MIDDLE) return below(r, limit / 32);
+    if (size == BORDER && !one_in(r, 3)) return limit + below(r, 3);
+    if (size == BORDER || size == LARGEST) limit *= 8;
+    if (size == BORDER) return limit - below(r, 2);
     if (one_in(r, 2)) return limit - below(r, 3);
     return below(r, limit + 1);
 }
 
-static uint8_t *put_ids(struct random *r, uint8_t *at, uint32_t count, uint32_t nodes) {
-    while (count--) at = put(at, below(r, nodes), 2);
+static uint8_t *put_ids(struct random *r, uint8_t *at, uint32_t count, uint32_t nodes, int width) {
+    while (count--) at = put(at, below(r, nodes), width);
     return at;
 }
 
-/* A stored form by chance, which is whole and within the limits. */
-static size_t drawn_form(struct random *r, int size, uint8_t *to) {
-    uint32_t nodes = a_count(r, size, 2048), edges = a_count(r, size, 2048), ports = a_count(r, size, 8192);
-    uint32_t count[3];
-    for (int i = 0; i < 3; i++) count[i] = nodes && one_in(r, 2) ? a_count(r, size, 1024) : 0;
-    if (nodes == 0 || edges == 0) ports = 0;
-    if (one_in(r, 2)) count[2] = 0;
-    uint8_t *at = put(put(put(to, 0x47484F, 3), 1, 2), nodes, 2);
-    at = put(at, edges, 2);
-    for (int i = 0; i < 3; i++) at = put(at, count[i], 2);
+/* A stored form by chance, which is whole and within the limits; now and then it is of the version that does not fit. */
+static size_t drawn_form(struct random *r, enum size size, uint8_t *to) {
+    static const uint32_t limits[] = {2048, 2048, 8192, 1024, 1024, 1024};
+    uint32_t count[6], picked = below(r, 6);
+    for (uint32_t i = 0; i < 6; i++) count[i] = a_count(r, size == BORDER && i != picked ? SMALL : size, limits[i]);
+    uint32_t nodes = count[0], edges = count[1], ports = nodes && edges ? count[2] : 0;
+    for (int i = 3; i < 6; i++)
+        if (nodes == 0 || one_in(r, 2)) count[i] = 0;
+    if (one_in(r, 2)) count[5] = 0;
+    bool fits = ports <= limits[2];
+    for (int i = 0; i < 6; i++) fits = fits && (i == 2 || count[i] <= limits[i]);
+    int version = fits != one_in(r, 16) ? 1 : 2, width = 2 * version;
+    uint8_t *at = put(put(to, 0x47484F, 3), version, 2);
+    for (int i = 0; i < 6; i++)
+        if (i != 2) at = put(at, count[i], width);
     for (uint32_t i = 0; i < nodes + edges; i++) at = put(at, a_label(r), 4);
     for (uint32_t left = edges; left > 0; left--) {
         uint32_t share = left == 1 ? ports : below(r, 2 * (uint64_t)ports / left + 1);
         uint32_t sources = below(r, share + 1);
-        at = put(put(at, sources, 2), share - sources, 2);
-        at = put_ids(r, at, share, nodes);
+        at = put(put(at, sources, width), share - sources, width);
+        at = put_ids(r, at, share, nodes, width);
         ports -= share;
     }
-    return put_ids(r, at, count[0] + count[1] + 2 * count[2], nodes) - to;
+    return put_ids(r, at, count[3] + count[4] + 2 * count[5], nodes, width) - to;
 }
 
 /* Numbers at which a check could be one off. */
 static uint32_t a_border(struct random *r) {
-    static const uint32_t borders[] = {0, 1, 127, 128, 255, 256, 1024, 2048, 4096, 8192, 32767, 32768, 65535, 65536, 0x7FFFFFFF, 0xFFFFFFFF};
+    static const uint32_t borders[] = {0, 1, 127, 128, 255, 256, 1024, 2048, 4096, 8192, 16384, 32767, 32768, 65535, 65536, 0x7FFFFFFF, 0xFFFFFFFF};
     return borders[below(r, sizeof borders / sizeof *borders)] + (uint32_t)below(r, 3) - 1;
 }
 
@@ -148,6 +167,15 @@ static size_t make_gap(uint8_t *bytes, size_t len, size_t at, size_t by, size_t 
     return at + by + stay;
 }
 
+/* Changes a field of a form's header: the version, or one of the five counts. */
+static void change_field(struct random *r, uint8_t *form, size_t len) {
+    uint32_t width = ohg_width(form, len), field = below(r, 6);
+    if (len < 5 + 5 * width) return;
+    uint8_t *at = field ? form + 5 + width * (field - 1) : form + 3;
+    if (one_in(r, 2)) *at += one_in(r, 2) ? 1 : -1;
+    else put(at, one_in(r, 2) ? a_border(r) : below(r, 16), field ? width : 2);
+}
+
 /* One change of some bytes; returns the new length. */
 static size_t change(struct random *r, uint8_t *bytes, size_t len, size_t most) {
     if (len == 0) {
@@ -159,9 +187,9 @@ static size_t change(struct random *r, uint8_t *bytes, size_t len, size_t most) 
     case 0: bytes[at] ^= 1 << below(r, 8); return len;
     case 1: bytes[at] = any(r); return len;
     case 2: bytes[at] += one_in(r, 2) ? 1 : -1; return len;
-    case 3: if (at + 2 <= len) put(bytes + at, a_border(r), 2); return len;
-    case 4: if (len >= 15) put(bytes + 3 + 2 * below(r, 6), one_in(r, 2) ? a_border(r) : below(r, 16), 2); return len;
-    case 5: if (len >= 15) bytes[5 + 2 * below(r, 5)] += one_in(r, 2) ? 1 : -1; return len;
+    case 3: if (at + 4 <= len) put(bytes + at, a_border(r), one_in(r, 2) ? 2 : 4); return len;
+    case 4:
+    case 5: change_field(r, bytes, len); return len;
     case 6: return one_in(r, 2) ? at : len - 1;
     case 7: memmove(bytes + at, bytes + at + run, len - at - run); return len - run;
     case 8: memmove(bytes + at, bytes + from, most_of(run, len - from)); return len;
@@ -194,7 +222,7 @@ static size_t make_src(struct maker *m) {
         memcpy(m->src + head, m->other + other - tail, tail);
         len = head + tail;
     } else if (kind < 96) { /* bytes after a good beginning */
-        size_t head = most_of(kept_form(m, m->src), 15 + below(r, 32));
+        size_t head = most_of(kept_form(m, m->src), 15 + below(r, 48));
         len = head + noise(r, m->src + head, below(r, 64));
     } else {
         len = noise(r, m->src, below(r, one_in(r, 50) ? SRC_MOST : 64));
@@ -204,12 +232,14 @@ static size_t make_src(struct maker *m) {
     return len;
 }
 
-static size_t make_list(struct maker *m, uint8_t *to, enum entries entries, const uint32_t counts[2]) {
+/* A list of labels, or of ids that are as wide as the graph's, or now and then of the other width. */
+static size_t make_list(struct maker *m, uint8_t *to, enum entries entries, const uint32_t counts[2], uint32_t width) {
     struct random *r = &m->chance;
+    if (one_in(r, 32)) width = 6 - width;
     uint64_t kind = below(r, 2000);
     size_t n = kind < 1900 ? below(r, 6) : kind < 1990 ? below(r, 100) : kind < 1998 ? below(r, 2100) : below(r, LIST_MOST / 4);
     uint8_t *at = to;
-    for (size_t i = 0; i < n; i++) at = entries == LABELS ? put(at, a_label(r), 4) : put(at, an_id(r, counts[entries == EDGES]), 2);
+    for (size_t i = 0; i < n; i++) at = entries == LABELS ? put(at, a_label(r), 4) : put(at, an_id(r, counts[entries == EDGES]), width);
     size_t len = at - to;
     if (one_in(r, 24)) len += noise(r, at, below(r, 4));
     return most_of(len, LIST_MOST);
@@ -230,13 +260,11 @@ struct call make_call(struct maker *m) {
     const struct function *f = &functions[c.function];
     for (int i = 0; i < LENGTHS; i++) c.fit[i] = one_in(r, 3) ? any(r) : 2;
     if (f->graph) c.src.len = make_src(m);
-    uint32_t counts[2] = {0, 0};
-    if (c.src.len >= 15) {
-        counts[0] = get2(m->src + 5);
-        counts[1] = get2(m->src + 7);
-    }
+    uint32_t counts[2] = {0, 0}, width = ohg_width(c.src.at, c.src.len);
+    if (c.src.len >= 15)
+        for (int i = 0; i < 2; i++) counts[i] = get(m->src + 5 + width * i, width);
     make_numbers(r, &c, counts);
-    for (int i = 0; i < LISTS; i++) c.list[i] = (struct slice){m->list[i], i < f->lists ? make_list(m, m->list[i], f->entries, counts) : 0};
+    for (int i = 0; i < LISTS; i++) c.list[i] = (struct slice){m->list[i], i < f->lists ? make_list(m, m->list[i], f->entries, counts, width) : 0};
     return c;
 }
 

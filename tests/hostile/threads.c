@@ -8,7 +8,7 @@
 
 #include "hostile.h"
 
-enum { THREADS = 100, STACK = 256 * 1024, CASES = 40, ROUNDS = 8, SHARED = 1 << 28, INPUTS_MOST = 1 << 17 };
+enum { THREADS = 100, STACK = 256 * 1024, CASES = 40, ROUNDS = 8, SHARED = 1 << 30, INPUTS_MOST = 1 << 17 };
 
 /* A call, with what it answered when one thread ran alone. */
 struct due {
@@ -67,7 +67,7 @@ static void record_due(struct desk *d, struct due *u, const struct call *c, uint
     u->returned = call_once(d, c->function, &l, u->length, c->sides);
     take_inputs_back(&l);
     for (int i = 0; i < functions[c->function].outs; i++) {
-        u->len[i] = written(&functions[c->function], u->returned, i);
+        u->len[i] = written(&functions[c->function], ohg_width(c->src.at, c->src.len), u->returned, i);
         u->bytes[i] = share(next, answered(d, &l, i), u->len[i]);
     }
 }

@@ -135,18 +135,32 @@ fn mebibyte() -> [u8; 1048576]
     [0; 1048576]
 }
 
-// As many zeros as the largest map of nodes has bytes, twice over.
-fn map_buffer() -> [u8; 8192]
-    ensures { λ r. ⌜ 8192 ≡ length r ⌝ }
+// More zeros than any call needs as work room.
+fn room_buffer() -> [u8; 1441792]
+    ensures { λ r. ⌜ 1441792 ≡ length r ⌝ }
 {
-    [0; 8192]
+    [0; 1441792]
+}
+
+// More zeros than the longest form has bytes.
+fn form_buffer() -> [u8; 720896]
+    ensures { λ r. ⌜ 720896 ≡ length r ⌝ }
+{
+    [0; 720896]
+}
+
+// As many zeros as the largest map of nodes has bytes, twice over.
+fn map_buffer() -> [u8; 131072]
+    ensures { λ r. ⌜ 131072 ≡ length r ⌝ }
+{
+    [0; 131072]
 }
 
 fn main() {
     let mut list = mebibyte();
     let n = io::read_full(0, &mut list);
-    let mut out = io::large_buffer();
+    let mut out = form_buffer();
     let mut map = map_buffer();
-    let mut room = mebibyte();
+    let mut room = room_buffer();
     tell(replay(&list[..n], &mut out, &mut map, &mut room));
 }

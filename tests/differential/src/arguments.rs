@@ -18,11 +18,12 @@ pub fn graph_and_node_list(graph: &[u8], rng: &mut Rng) -> Vec<Arguments> {
 /// The graph with lists of ids below a count: one by chance, and another one, or, of up to three ids, all subsets. A form
 /// that is refused goes with one list.
 pub fn with_ids_below(graph: &[u8], count: usize, rng: &mut Rng) -> Vec<Arguments> {
-    let mut lists = vec![id_list(rng, count)];
+    let width = form::width(graph);
+    let mut lists = vec![id_list(rng, count, width)];
     if form::sizes(graph).is_ok() {
         match count {
-            0..=3 => lists.extend((0..1 << count).map(|set| subset(rng, set))),
-            _ => lists.push(id_list(rng, count)),
+            0..=3 => lists.extend((0..1 << count).map(|set| subset(rng, set, width))),
+            _ => lists.push(id_list(rng, count, width)),
         }
     }
     with_lists(graph, &lists)
@@ -40,7 +41,7 @@ pub fn counts(form: &[u8]) -> (usize, usize) {
 }
 
 /// The ids whose bits are set, in some order, now and then one of them again.
-fn subset(rng: &mut Rng, set: usize) -> Vec<u8> {
+fn subset(rng: &mut Rng, set: usize, width: usize) -> Vec<u8> {
     let mut ids = vec![];
     for id in (0..3).filter(|id| set >> id & 1 == 1) {
         for _ in 0..rng.pick(&[1, 1, 2]) {
@@ -48,11 +49,11 @@ fn subset(rng: &mut Rng, set: usize) -> Vec<u8> {
             ids.insert(at, id);
         }
     }
-    id_bytes(ids)
+    id_bytes(ids, width)
 }
 
-/// A list of ids: none, one, some with repeats, all up or down, very many; now and then with a bad id or a broken end.
-pub fn id_list(rng: &mut Rng, count: usize) -> Vec<u8> {
+/// A list of ids of so many bytes: none, one, some with repeats, all up or down, very many; now and then with a bad id or a broken end.
+pub fn id_list(rng: &mut Rng, count: usize, width: usize) -> Vec<u8> {
     let mut ids: Vec<usize> = match rng.below(10) {
         0 => vec![],
         1 => (0..count).collect(),
@@ -66,9 +67,18 @@ pub fn id_list(rng: &mut Rng, count: usize) -> Vec<u8> {
     };
     if rng.once_in(12) {
         let at = rng.between(0, ids.len());
-        ids.insert(at, rng.pick(&[count, 65_535]));
+        ids.insert(at, rng.pick(&bad_ids(count, width)));
     }
-    broken(rng, id_bytes(ids))
+    broken(rng, id_bytes(ids, width))
+}
+
+/// Ids that are not below a count: the next one and the highest; where they have 4 bytes, also the highest of 2 bytes, and
+/// those whose low two bytes are good.
+pub fn bad_ids(count: usize, width: usize) -> Vec<usize> {
+    match width {
+        2 => vec![count, 65_535],
+        _ => vec![count, 65_535, 65_536, 1 << 31, u32::MAX as usize],
+    }
 }
 
 fn some_ids(rng: &mut Rng, count: usize, n: usize) -> Vec<usize> {

@@ -20,7 +20,7 @@ pub fn to_lax(drawing: &Drawing) -> Graph {
         graph.new_edge(to_label(edge.label), interface);
     }
     for &(v, w) in &drawing.pairs {
-        graph.unify(NodeId(v.into()), NodeId(w.into()));
+        graph.unify(NodeId(v as usize), NodeId(w as usize));
     }
     graph
 }
@@ -80,13 +80,10 @@ fn from_label(label: &WithSpider<u32>) -> u32 {
     }
 }
 
-fn to_nodes(ids: &[u16]) -> Vec<NodeId> {
-    ids.iter().map(|&id| NodeId(id.into())).collect()
+fn to_nodes(ids: &[u32]) -> Vec<NodeId> {
+    ids.iter().map(|&id| NodeId(id as usize)).collect()
 }
 
-fn from_nodes(nodes: &[NodeId]) -> Vec<u16> {
-    nodes
-        .iter()
-        .map(|node| u16::try_from(node.0).expect("a graph within the limits has ids of 16 bits"))
-        .collect()
+fn from_nodes(nodes: &[NodeId]) -> Vec<u32> {
+    nodes.iter().map(|node| node.0 as u32).collect()
 }

@@ -11,7 +11,7 @@ const USAGE: &str = "usage: differential [--full | --calls N] [--seed N]
 
 /// About how many calls a quick run makes, and how many a full one makes for each share of a group.
 const QUICK_CALLS: u64 = 60_000;
-const FULL_CALLS_PER_SHARE: u64 = 1_000_000;
+const FULL_CALLS_PER_SHARE: u64 = 500_000;
 
 fn main() -> ExitCode {
     let words: Vec<String> = std::env::args().skip(1).collect();

@@ -1,7 +1,7 @@
 //! What is known of an exported function, and the calls that it is tried with.
 
 use crate::call::{Answer, Arguments, Call, Due, Outcome};
-use crate::form::{Drawing, Refusal, HEADER_BYTES};
+use crate::form::{Drawing, Refusal, VERSION_2};
 use crate::rng::Rng;
 use crate::rooms::Rooms;
 
@@ -41,7 +41,7 @@ pub struct Group {
     pub share: u64,
     /// Forms that every run takes.
     pub fixed: fn(&mut Rng) -> Vec<Vec<u8>>,
-    /// Forms that a full run takes, all of some small kinds.
+    /// Forms that a full run takes: all of some small kinds, and the largest.
     pub every: fn(Rng) -> Forms,
     /// A quick run takes one of them in so many.
     pub step: usize,
@@ -95,7 +95,7 @@ impl Function {
         let answers = outcome.as_ref().map(Answer::lengths);
         Call {
             arguments,
-            answers: answers.unwrap_or_else(|_| vec![HEADER_BYTES; self.answers()]),
+            answers: answers.unwrap_or_else(|_| vec![VERSION_2.header_bytes(); self.answers()]),
             room: self.room,
         }
     }

@@ -4,11 +4,12 @@
 
 use crate::call::{packed, written, Arguments, Call, Due};
 use crate::cases::{self, damage, random};
-use crate::form;
+use crate::form::{self, Drawing, VERSION_1, VERSION_2};
 use crate::operation::Function;
 use crate::rng::Rng;
 use crate::rooms::Rooms;
 use crate::rows::{functions, GROUPS};
+use std::collections::BTreeMap;
 
 /// What every answer buffer is filled with before a call.
 const FILL: u8 = 0xA5;
@@ -17,17 +18,33 @@ const FILL: u8 = 0xA5;
 const NO_ROOM: u32 = u32::MAX;
 
 /// Random drawings for each function.
-const RANDOM: usize = 24;
+const RANDOM: usize = 16;
 
-/// Of arguments picked by hand, those with up to so many bytes in and out are recorded in all calls, and those with up to
-/// so many more in the exact call, one for each number that a function returns as its code.
+/// Refused forms for each function and each refusal.
+const REFUSED: usize = 4;
+
+/// Of arguments picked by hand, those with up to so many bytes in and out are recorded in all calls. Of those with up to so
+/// many more, the shortest of each kind is recorded in the exact call.
 const SMALL: usize = 300;
-const LARGE: usize = 17_000;
+const LARGE: usize = 42_000;
 
 pub struct List {
     pub bytes: Vec<u8>,
-    /// Of each record, the function's number and the code that it returns.
-    pub records: Vec<(u8, u8)>,
+    /// Of each record, the function's number and what kind of call it is.
+    pub records: Vec<(u8, Kind)>,
+}
+
+/// What a function returns as its code, and the versions of the graph that it reads and of the one that it answers.
+pub type Kind = (u8, Option<u16>, Option<u16>);
+
+fn kind(arguments: &Arguments, due: Due) -> Kind {
+    let version = |form: &Vec<u8>| Some(form::version(form).ok()?.number);
+    let answer = due.ok().and_then(|answer| answer.written.first());
+    (
+        packed(due) as u8,
+        arguments.inputs.first().and_then(version),
+        answer.and_then(version),
+    )
 }
 
 /// Which of the calls that a run makes with some arguments are recorded.
@@ -45,9 +62,12 @@ pub fn list(rooms: &Rooms, rng: &mut Rng) -> Result<List, String> {
         records: vec![],
     };
     let by_hand: Vec<Vec<u8>> = cases::worked_by_hand().iter().map(form::write).collect();
-    let p8 = form::write(&cases::p8());
-    let refused = damage::each_refusal(&p8);
-    let damaged = damaged(&p8);
+    let refused = refused();
+    let damaged = damaged();
+    let outgrown = form::write(&Drawing {
+        sources: vec![2; VERSION_1.most.sources + 1],
+        ..cases::p7()
+    });
     let rows: usize = GROUPS.iter().map(|group| group.operations.len()).sum();
     let mut row = 0;
     for group in GROUPS {
@@ -56,8 +76,10 @@ pub fn list(rooms: &Rooms, rng: &mut Rng) -> Result<List, String> {
             for form in &by_hand {
                 list.put_form(&function, form, Which::All, rng);
             }
-            for form in &refused {
-                list.put_form(&function, form, Which::Exact, rng);
+            for forms in &refused {
+                for form in forms.iter().cycle().skip(row * REFUSED).take(REFUSED) {
+                    list.put_form(&function, form, Which::Exact, rng);
+                }
             }
             for _ in 0..RANDOM {
                 let form = form::write(&(group.drawing)(rng, 8));
@@ -67,9 +89,13 @@ pub fn list(rooms: &Rooms, rng: &mut Rng) -> Result<List, String> {
             for form in damaged.iter().skip(row).step_by(rows) {
                 list.put_form(&function, form, Which::OneByChance, rng);
             }
-            // The largest drawing goes to the one function whose answer shows every byte of it.
+            // What has outgrown version 1 goes to the functions that nothing is picked for; the others have it from there.
+            if (function.operation.picked)().is_empty() {
+                list.put_form(&function, &outgrown, Which::Exact, rng);
+            }
+            // Version 1's largest drawing goes to the one function whose answer shows every byte of it.
             if function.operation.name == "ohg_rewrite" {
-                let largest = form::write(&random::drawing(rng, cases::LARGEST));
+                let largest = form::write(&random::drawing(rng, VERSION_1.most));
                 list.put_form(&function, &largest, Which::Exact, rng);
             }
             row += 1;
@@ -78,14 +104,32 @@ pub fn list(rooms: &Rooms, rng: &mut Rng) -> Result<List, String> {
     Ok(list)
 }
 
-/// Many more forms that are refused: each cut of P8, bytes of it changed, headers, and port sums about their limit.
-fn damaged(p8: &[u8]) -> Vec<Vec<u8>> {
-    let cuts = (0..p8.len()).map(|n| p8[..n].to_vec());
+/// For each refusal of a form, the short forms that are refused by it.
+fn refused() -> Vec<Vec<Vec<u8>>> {
+    let mut forms = damage::each_refusal();
+    forms.retain(|form| form.len() <= SMALL);
+    let mut by_refusal: BTreeMap<u8, Vec<Vec<u8>>> = BTreeMap::new();
+    for form in forms {
+        if let Err(refusal) = form::sizes(&form) {
+            by_refusal.entry(refusal as u8).or_default().push(form);
+        }
+    }
+    by_refusal.into_values().collect()
+}
+
+/// Many more forms that are refused: each cut of P8, in version 1 and in version 2, bytes of both changed, headers, and port
+/// sums about their limit.
+fn damaged() -> Vec<Vec<u8>> {
+    let [one, two] = [VERSION_1, VERSION_2].map(|version| form::write_as(version, &cases::p8()));
+    let cuts = [&one, &two].map(|p8| (0..p8.len()).map(|n| p8[..n].to_vec()));
     let short_sums = damage::port_sums()
         .into_iter()
         .filter(|form| form.len() < 100);
-    cuts.chain(damage::damages(p8).step_by(5))
-        .chain(damage::headers().step_by(59))
+    cuts.into_iter()
+        .flatten()
+        .chain(damage::damages(&one).step_by(5))
+        .chain(damage::damages(&two).step_by(11))
+        .chain(damage::headers().step_by(997))
         .chain(short_sums)
         .collect()
 }
@@ -93,18 +137,24 @@ fn damaged(p8: &[u8]) -> Vec<Vec<u8>> {
 impl List {
     /// Records a function with the arguments picked by hand.
     fn put_picked(&mut self, function: &Function, rng: &mut Rng) {
-        let mut large = vec![];
+        let mut small: Vec<Kind> = vec![];
+        let mut large: BTreeMap<Kind, (usize, Arguments)> = BTreeMap::new();
         for arguments in (function.operation.picked)() {
             let outcome = (function.operation.expected)(&arguments);
-            let code = outcome.as_ref().err().copied();
-            let written = outcome.map_or(vec![], |answer| answer.written);
-            let bytes = arguments.inputs.concat().len() + written.concat().len();
+            let due = outcome.as_ref().map_err(|refusal| *refusal);
+            let written = due.map_or(0, |answer| answer.written.concat().len());
+            let bytes = arguments.inputs.concat().len() + written;
+            let kind = kind(&arguments, due);
             if bytes <= SMALL {
+                small.push(kind);
                 self.put_calls(function, arguments, Which::All, rng);
-            } else if bytes <= LARGE && !large.contains(&code) {
-                large.push(code);
-                self.put_calls(function, arguments, Which::Exact, rng);
+            } else if bytes <= LARGE && large.get(&kind).is_none_or(|(least, _)| bytes < *least) {
+                large.insert(kind, (bytes, arguments));
             }
+        }
+        large.retain(|kind, _| !small.contains(kind));
+        for (_, arguments) in large.into_values() {
+            self.put_calls(function, arguments, Which::Exact, rng);
         }
     }
 
@@ -149,8 +199,7 @@ impl List {
     }
 
     fn put_record(&mut self, number: u8, call: &Call, due: Due) {
-        let returned = packed(due);
-        self.records.push((number, returned as u8));
+        self.records.push((number, kind(&call.arguments, due)));
         self.bytes.push(number);
 
         self.bytes.push(call.arguments.numbers.len() as u8);
@@ -172,7 +221,7 @@ impl List {
         }
 
         self.put_number(call.room.map_or(NO_ROOM, |room| room as u32));
-        self.bytes.extend_from_slice(&returned.to_le_bytes());
+        self.bytes.extend_from_slice(&packed(due).to_le_bytes());
     }
 
     fn put_bytes(&mut self, bytes: &[u8]) {
@@ -188,17 +237,65 @@ impl List {
 #[cfg(test)]
 mod tests {
     use super::*;
+    use crate::operation::Operation;
     use std::collections::BTreeSet;
 
-    #[test]
-    fn every_function_is_recorded_with_an_answer_and_each_of_its_refusals() {
+    /// The shortest calls that pass version 2's limits are too long to be recorded of every function that can pass them.
+    const RECORDED_WITH_9: [&str; 3] = ["ohg_identity", "ohg_singleton", "ohg_spiderize"];
+
+    /// The replaying program reads no more than this.
+    const MOST_BYTES: usize = 1 << 20;
+
+    fn recorded() -> (List, impl Iterator<Item = &'static Operation>) {
         let rooms = Rooms::read().expect("the header is there");
         let list = list(&rooms, &mut Rng::new(1)).expect("it names all work rooms");
-        for operation in GROUPS.iter().flat_map(|group| group.operations) {
-            let own = |record: &&(u8, u8)| record.0 == operation.number;
-            let codes: BTreeSet<u8> = list.records.iter().filter(own).map(|r| r.1).collect();
-            let due = operation.refusals.iter().copied().chain([0]).collect();
+        (list, GROUPS.iter().flat_map(|group| group.operations))
+    }
+
+    fn kinds(list: &List, operation: &Operation) -> BTreeSet<Kind> {
+        let own = |record: &&(u8, Kind)| record.0 == operation.number;
+        let records = list.records.iter().filter(own);
+        records.map(|record| record.1).collect()
+    }
+
+    #[test]
+    fn every_function_is_recorded_with_an_answer_and_its_refusals() {
+        let (list, operations) = recorded();
+        for operation in operations {
+            let mut due: BTreeSet<u8> = operation.refusals.iter().copied().chain([0]).collect();
+            if !RECORDED_WITH_9.contains(&operation.name) {
+                due.remove(&9);
+            }
+            let kinds = kinds(&list, operation);
+            let codes: BTreeSet<u8> = kinds.iter().map(|kind| kind.0).collect();
             assert_eq!(codes, due, "{}", operation.name);
         }
+    }
+
+    /// Both versions are read and answered, and what can grow or shrink goes from one to the other.
+    #[test]
+    fn every_function_is_recorded_with_both_versions() {
+        let (list, operations) = recorded();
+        let [none, one, two] = [None, Some(1), Some(2)];
+        for operation in operations {
+            let due: &[_] = match operation.name {
+                "ohg_empty" => &[(none, one)],
+                "ohg_rewrite" => &[(one, one), (two, two)],
+                "ohg_discrete" | "ohg_identity" | "ohg_singleton" => &[(none, one), (none, two)],
+                "ohg_delete_edges" | "ohg_delete_nodes" => &[(one, one), (two, one), (two, two)],
+                _ if operation.refusals.contains(&9) => &[(one, one), (one, two), (two, two)],
+                _ => &[(one, none), (two, none)],
+            };
+            let kinds = kinds(&list, operation);
+            for &(read, answered) in due {
+                let kind = (0, read, answered);
+                assert!(kinds.contains(&kind), "{}: {kind:?}", operation.name);
+            }
+        }
+    }
+
+    #[test]
+    fn the_list_fits_the_program_that_replays_it() {
+        assert!(recorded().0.bytes.len() < MOST_BYTES);
     }
 }

@@ -57,7 +57,7 @@ mod tests {
         let room = |line| defined(line);
         let found = Some(("DELETE_NODES".to_string(), 4096));
         assert_eq!(room("#define OHG_ROOM_DELETE_NODES 4096"), found);
-        assert_eq!(room("#define OHG_FORM_BYTES 49167"), None);
+        assert_eq!(room("#define OHG_FORM_BYTES 655385"), None);
         assert_eq!(room("/* OHG_ROOM_DELETE_NODES 4096 */"), None);
     }
 }

@@ -15,7 +15,7 @@ use std::collections::BTreeMap;
 use std::mem::{discriminant, Discriminant};
 
 /// The highest refusal number.
-const MOST_CODE: usize = 10;
+const MOST_CODE: usize = 13;
 
 /// How much is tried.
 #[derive(Clone, Copy)]
@@ -105,8 +105,9 @@ impl Run {
                 self.all_lengths(function, arguments);
             }
         }
-        let by_hand: Vec<Vec<u8>> = cases::worked_by_hand().iter().map(form::write).collect();
-        let refused = damage::each_refusal(&form::write(&cases::p8()));
+        let by_hand = [cases::worked_by_hand(), cases::outgrown_by_hand()].concat();
+        let by_hand: Vec<Vec<u8>> = by_hand.iter().map(form::write).collect();
+        let refused = damage::each_refusal();
         let mut forms = 0;
         for form in by_hand.iter().chain(&refused) {
             forms += 1;

@@ -7,28 +7,31 @@ use oracle::lax::NodeId;
 
 pub type Checked<T> = Result<T, Refusal>;
 
-/// 1 to 6.
+/// 1 to 6, and 13.
 pub fn graph(arguments: &Arguments) -> Checked<Graph> {
     Ok(to_lax(&form::read(arguments.graph())?))
 }
 
-/// 7: a broken entry at the end, or an id not below its count.
-pub fn id_list(bytes: &[u8], count: usize) -> Checked<Vec<usize>> {
-    let ids: Vec<usize> = form::ids(bytes).map(usize::from).collect();
-    if bytes.len().is_multiple_of(2) && ids.iter().all(|&id| id < count) {
-        Ok(ids)
+/// 7: an input with a broken entry at its end, or an id not below its count. Entries are as wide as those of the graph
+/// that was read.
+pub fn id_list(arguments: &Arguments, input: usize, count: usize) -> Checked<Vec<usize>> {
+    let width = form::width(arguments.graph());
+    let bytes = &arguments.inputs[input];
+    let ids = form::id_list(bytes, width);
+    if bytes.len().is_multiple_of(width) && ids.iter().all(|&id| (id as usize) < count) {
+        Ok(ids.into_iter().map(|id| id as usize).collect())
     } else {
         Err(Refusal::List)
     }
 }
 
 /// 7: the same of nodes.
-pub fn node_list(bytes: &[u8], graph: &Graph) -> Checked<Vec<NodeId>> {
-    let ids = id_list(bytes, graph.hypergraph.nodes.len())?;
+pub fn node_list(arguments: &Arguments, input: usize, graph: &Graph) -> Checked<Vec<NodeId>> {
+    let ids = id_list(arguments, input, graph.hypergraph.nodes.len())?;
     Ok(ids.into_iter().map(NodeId).collect())
 }
 
-/// 9, and the stored form.
+/// 9, and the stored form, in the version that fits.
 pub fn stored(graph: &Graph) -> Checked<Vec<u8>> {
     if sizes(graph).within_limits() {
         Ok(form::write(&from_lax(graph)))

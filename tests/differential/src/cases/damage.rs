@@ -1,10 +1,12 @@
 //! Forms that are refused, and forms about to be.
 
-use super::{edge, plain};
-use crate::form::{
-    self, HEADER_BYTES, MARK, MOST_EDGES, MOST_GLOBALS, MOST_NODES, MOST_PAIRS, MOST_PORTS, VERSION,
-};
+use super::small::place;
+use super::{p8, p8_outgrown, Drawing};
+use crate::form::{self, number, put_number, write_as, Version, MARK, VERSION_1, VERSION_2};
 use crate::rng::Rng;
+
+/// Version fields that are neither version's.
+const OTHER_VERSIONS: [u16; 8] = [0, 3, 256, 257, 258, 512, 513, 65_535];
 
 /// All byte strings of up to two bytes.
 pub fn short_strings() -> impl Iterator<Item = Vec<u8>> {
@@ -13,101 +15,217 @@ pub fn short_strings() -> impl Iterator<Item = Vec<u8>> {
     std::iter::once(vec![]).chain(one).chain(two)
 }
 
-/// All headers with each count at 0, 1, one below its limit, at it, one above it, and the most that 16 bits hold.
+/// All headers of both versions with each count at 0, 1, about the limits of both, and at the most that 16 bits hold; in
+/// version 2 also one past that and the most that 32 bits hold.
 pub fn headers() -> impl Iterator<Item = Vec<u8>> {
-    let around = |most: usize| [0, 1, most - 1, most, most + 1, 65_535].map(|n| n as u16);
-    let globals = around(MOST_GLOBALS);
-    let values = [
-        around(MOST_NODES),
-        around(MOST_EDGES),
-        globals,
-        globals,
-        around(MOST_PAIRS),
-    ];
-    (0..6usize.pow(5)).map(move |k| {
-        let mut digits = k;
-        header(values.map(|value| value[super::small::place(&mut digits, 6)]))
+    let [one, two] = [VERSION_1, VERSION_2].map(|version| {
+        let most = version.most;
+        [
+            most.nodes,
+            most.edges,
+            most.sources,
+            most.targets,
+            most.pairs,
+        ]
+        .map(|most| most as u32)
+    });
+    let values = |i: usize| {
+        let (one, two) = (one[i], two[i]);
+        let of_one = vec![0, 1, one - 1, one, one + 1, two, two + 1, 65_535];
+        let of_two = vec![
+            0,
+            1,
+            one,
+            one + 1,
+            two - 1,
+            two,
+            two + 1,
+            65_535,
+            65_536,
+            u32::MAX,
+        ];
+        [of_one, of_two]
+    };
+    let values = [0, 1, 2, 3, 4].map(values);
+    let of_both = [VERSION_1, VERSION_2].into_iter().enumerate();
+    of_both.flat_map(move |(i, version)| {
+        let values = values.each_ref().map(|values| values[i].clone());
+        let all: usize = values.iter().map(Vec::len).product();
+        (0..all).map(move |k| {
+            let mut digits = k;
+            let count = |values: &Vec<u32>| values[place(&mut digits, values.len())];
+            header(version, values.each_ref().map(count))
+        })
     })
 }
 
-/// A header of 15 bytes.
-fn header(counts: [u16; 5]) -> Vec<u8> {
+fn header(version: Version, counts: [u32; 5]) -> Vec<u8> {
     let mut form = MARK.to_vec();
-    for number in [VERSION].iter().chain(&counts) {
-        form.extend_from_slice(&number.to_le_bytes());
+    form.extend_from_slice(&version.number.to_le_bytes());
+    for count in counts {
+        form.extend_from_slice(&count.to_le_bytes()[..version.width]);
     }
     form
 }
 
-/// Forms that are refused by each of 1 to 6, in several ways each, made from the form of P8: it has nodes, edges and
-/// pairs.
-pub fn each_refusal(p8: &[u8]) -> Vec<Vec<u8>> {
-    let changed = |at: usize, number: u16| {
-        let mut form = p8.to_vec();
-        form[at..at + 2].copy_from_slice(&number.to_le_bytes());
-        form
-    };
+/// Forms that are refused by each of 1 to 6 and by 13, in several ways each, made from the form of P8: it has nodes, edges
+/// and pairs.
+pub fn each_refusal() -> Vec<Vec<u8>> {
+    let mut forms = refused_in_1();
+    forms.extend(refused_in_2());
+    forms.extend(other_forms());
+    forms
+}
+
+fn changed(form: &[u8], at: usize, width: usize, number: u32) -> Vec<u8> {
+    let mut changed = form.to_vec();
+    put_number(&mut changed, at, width, number);
+    changed
+}
+
+fn refused_in_1() -> Vec<Vec<u8>> {
+    let p8 = write_as(VERSION_1, &p8());
     let last = p8.len() - 2;
-    vec![
-        vec![],
-        p8[..14].to_vec(),
-        changed(0, 0),
-        changed(1, 0),
-        changed(3, 2),
-        changed(3, 0x0101),
-        changed(5, 2049),
-        changed(7, 2049),
-        changed(9, 1025),
-        changed(11, 1025),
-        changed(13, 1025),
+    let mut forms = vec![vec![], p8[..14].to_vec(), p8[..p8.len() - 1].to_vec()];
+    forms.extend([p8[..38].to_vec(), [&p8[..], &[0]].concat()]);
+    for (at, number) in [
+        (0, 0),
+        (1, 0),
+        (3, 2),
+        (5, 2049),
+        (7, 2049),
+        (9, 1025),
+        (11, 1025),
+        (13, 1025),
         // The first edge's target count passes the port limit, or is the most that it may be.
-        changed(37, 8192),
-        changed(37, 8191),
-        p8[..38].to_vec(),
-        p8[..p8.len() - 1].to_vec(),
-        [p8, &[0]].concat(),
-        changed(39, 3),
-        changed(last, 3),
-        changed(last, 65_535),
+        (37, 8192),
+        (37, 8191),
+        (39, 3),
+        (last, 3),
+        (last, 65_535),
+    ] {
+        forms.push(changed(&p8, at, 2, number));
+    }
+    let versions = OTHER_VERSIONS.map(|version| changed(&p8, 3, 2, version.into()));
+    forms.extend(versions);
+    forms
+}
+
+fn refused_in_2() -> Vec<Vec<u8>> {
+    let p8 = form::write(&p8_outgrown());
+    let last = p8.len() - 4;
+    let mut forms = vec![p8[..p8.len() - 1].to_vec(), [&p8[..], &[0]].concat()];
+    // The header cut at each byte, with good counts and with counts above every limit.
+    let over = header(VERSION_2, [u32::MAX; 5]);
+    forms.extend((14..25).map(|n| p8[..n].to_vec()));
+    forms.extend((14..=25).map(|n| over[..n].to_vec()));
+    // The first edge's counts cut.
+    forms.extend([48, 49, 52].map(|n| p8[..n].to_vec()));
+    for (at, number) in [
+        (5, 16_385),
+        (5, 65_539),
+        (9, 16_385),
+        (9, 65_538),
+        (13, 8193),
+        (17, 8193),
+        (21, 8193),
+        (21, u32::MAX),
+        // The first edge has one source, so this sum is 0 in 32 bits; then one above the limit, and the limit.
+        (49, u32::MAX),
+        (49, 65_536),
+        (49, 65_535),
+        (45, 65_537),
+        (53, 3),
+        (53, 65_536),
+        (53, u32::MAX),
+        (last, 3),
+        (last, 65_535),
+        (last, 1 << 31),
+    ] {
+        forms.push(changed(&p8, at, 4, number));
+    }
+    forms.push(changed(&p8, 3, 2, 1));
+    for version in OTHER_VERSIONS {
+        let other = changed(&p8, 3, 2, version.into());
+        forms.extend([other[..15].to_vec(), other[..25].to_vec(), other]);
+    }
+    forms
+}
+
+/// Version 2 where version 1 holds the graph: the empty one, P8, and P8 with as many global sources as version 1 holds; P8
+/// also with a foreign id, which comes first, and cut, which comes before that.
+fn other_forms() -> Vec<Vec<u8>> {
+    let full = Drawing {
+        sources: vec![2; VERSION_1.most.sources],
+        ..p8()
+    };
+    let [p8, full] = [p8(), full].map(|drawing| write_as(VERSION_2, &drawing));
+    let foreign = changed(&p8, 53, 4, 3);
+    vec![
+        header(VERSION_2, [0; 5]),
+        foreign[..foreign.len() - 1].to_vec(),
+        foreign,
+        p8,
+        full,
     ]
 }
 
 /// Forms of two edges whose port sum stands about its limit, passed with a source count or with a target count; each
-/// whole, and cut in the second edge's counts, after them, in its ids and before the last byte.
+/// whole, and cut in the second edge's counts, after them, in its ids and before the last byte. Counts that are far too
+/// high go without their ids.
 pub fn port_sums() -> Vec<Vec<u8>> {
-    let most = MOST_PORTS as u16;
-    let firsts = [(0, 0), (1, 1), (most, 0), (0, most)];
-    let seconds = [
-        (0, 0),
-        (0, 1),
-        (1, 0),
-        (most - 2, 0),
-        (0, most - 2),
-        (1, most - 3),
-        (2, most - 3),
-        (most - 3, 2),
-        (most, 0),
-        (65_535, 65_535),
-    ];
     let mut forms = vec![];
-    for first in firsts {
-        for second in seconds {
-            let of_zeros = |(sources, targets): (u16, u16)| {
-                edge(5, &vec![0; sources.into()], &vec![0; targets.into()])
-            };
-            let form = form::write(&plain(1, &[of_zeros(first), of_zeros(second)]));
-            let second_edge = HEADER_BYTES + 12 + 4 + 2 * usize::from(first.0 + first.1);
-            for cut in [
-                second_edge + 3,
-                second_edge + 4,
-                second_edge + 5,
-                form.len() - 1,
-            ] {
-                forms.push(form[..cut.min(form.len())].to_vec());
+    for version in [VERSION_1, VERSION_2] {
+        let most = version.most.ports as u32;
+        let highest = u32::MAX >> (32 - 8 * version.width);
+        let empty_or_few = [(0, 0), (1, 1)];
+        let seconds = [
+            (0, 0),
+            (0, 1),
+            (1, 0),
+            (most - 2, 0),
+            (0, most - 2),
+            (1, most - 3),
+            (2, most - 3),
+            (most - 3, 2),
+            (most, 0),
+            (highest, highest),
+            (highest, 1),
+            (1, highest),
+            (highest - 1, 1),
+            (highest / 2 + 1, highest / 2 + 1),
+        ];
+        let full = [(most, 0), (0, most)];
+        let firsts = empty_or_few.map(|first| (first, &seconds[..]));
+        for (first, seconds) in firsts
+            .into_iter()
+            .chain(full.map(|first| (first, &seconds[..3])))
+        {
+            for &second in seconds {
+                forms.extend(two_edges(version, first, second));
             }
-            forms.push(form);
         }
     }
+    forms
+}
+
+/// One node and two edges with so many sources and targets.
+fn two_edges(version: Version, first: (u32, u32), second: (u32, u32)) -> Vec<Vec<u8>> {
+    let mut form = header(version, [1, 2, 0, 0, 0]);
+    form.extend([0; 12]);
+    let mut second_edge = 0;
+    for (sources, targets) in [first, second] {
+        second_edge = form.len();
+        for count in [sources, targets] {
+            form.extend_from_slice(&count.to_le_bytes()[..version.width]);
+        }
+        let ids = (sources as usize + targets as usize).min(version.most.ports);
+        form.resize(form.len() + version.width * ids, 0);
+    }
+    let ids = second_edge + 2 * version.width;
+    let cuts = [ids - 1, ids, ids + 1, form.len() - 1];
+    let mut forms: Vec<_> = cuts.map(|cut| form[..cut.min(form.len())].to_vec()).into();
+    forms.push(form);
     forms
 }
 
@@ -128,15 +246,14 @@ pub fn damages(form: &[u8]) -> impl Iterator<Item = Vec<u8>> + '_ {
     bytes.chain(changed_numbers(form))
 }
 
-/// Each 16-bit number after the header put to the last node's id, just past it, and the highest there is.
+/// Each count or id after the header put to the last node's id, just past it, and the highest there is.
 fn changed_numbers(form: &[u8]) -> impl Iterator<Item = Vec<u8>> + '_ {
-    let nodes = form::number16(form, 5);
-    (HEADER_BYTES..form.len().max(HEADER_BYTES + 1) - 1).flat_map(move |at| {
-        [nodes.wrapping_sub(1), nodes, u16::MAX].map(|id| {
-            let mut changed = form.to_vec();
-            changed[at..at + 2].copy_from_slice(&id.to_le_bytes());
-            changed
-        })
+    let version = form::version(form).expect("the form is good");
+    let (start, width) = (version.header_bytes(), version.width);
+    let nodes = number(form, 5, width);
+    (start..form.len().max(start + width) - width).flat_map(move |at| {
+        let ids = [nodes.wrapping_sub(1), nodes, 65_535, 65_536, u32::MAX];
+        ids.map(|id| changed(form, at, width, id))
     })
 }
 
@@ -144,6 +261,7 @@ fn changed_numbers(form: &[u8]) -> impl Iterator<Item = Vec<u8>> + '_ {
 
 /// One damage to a good form, or random bytes after its header.
 pub fn damaged(rng: &mut Rng, mut form: Vec<u8>) -> Vec<u8> {
+    let version = form::version(&form).expect("the form is good");
     let at = rng.below(form.len());
     match rng.below(8) {
         0 => form[at] ^= 1 << rng.below(8),
@@ -153,45 +271,45 @@ pub fn damaged(rng: &mut Rng, mut form: Vec<u8>) -> Vec<u8> {
             let more = rng.between(1, 5);
             form.extend(rng.bytes(more));
         }
-        4 => change_header_count(rng, &mut form),
-        5 => change_id(rng, &mut form),
-        _ => random_body(rng, &mut form),
+        4 => change_header_count(rng, version, &mut form),
+        5 => change_id(rng, version, &mut form),
+        _ => random_body(rng, version, &mut form),
     }
     form
 }
 
 /// Puts a header count one up, one down, or anywhere.
-fn change_header_count(rng: &mut Rng, form: &mut [u8]) {
-    let at = rng.pick(&[5, 7, 9, 11, 13]);
-    let count = form::number16(form, at);
+fn change_header_count(rng: &mut Rng, version: Version, form: &mut [u8]) {
+    let at = 5 + version.width * rng.below(5);
+    let count = number(form, at, version.width);
     let changed = match rng.below(3) {
         0 => count.wrapping_add(1),
         1 => count.wrapping_sub(1),
-        _ => rng.number() as u16,
+        _ => rng.number() as u32,
     };
-    form[at..at + 2].copy_from_slice(&changed.to_le_bytes());
+    put_number(form, at, version.width, changed);
 }
 
-/// Puts some 16-bit number after the labels, a count or an id, to the last node, just past it, or the highest there is.
-fn change_id(rng: &mut Rng, form: &mut [u8]) {
-    let nodes = form::number16(form, 5);
-    let edges = form::number16(form, 7);
-    let labels = HEADER_BYTES + 4 * (usize::from(nodes) + usize::from(edges));
-    let places = form.len().saturating_sub(labels) / 2;
+/// Puts some number after the labels, a count or an id, to the last node, just past it, or the highest there is.
+fn change_id(rng: &mut Rng, version: Version, form: &mut [u8]) {
+    let width = version.width;
+    let [nodes, edges] = [0, 1].map(|i| number(form, 5 + i * width, width));
+    let labels = version.header_bytes() + 4 * (nodes as usize + edges as usize);
+    let places = form.len().saturating_sub(labels) / width;
     if places > 0 {
-        let at = labels + 2 * rng.below(places);
-        let id = rng.pick(&[nodes.wrapping_sub(1), nodes, u16::MAX]);
-        form[at..at + 2].copy_from_slice(&id.to_le_bytes());
+        let at = labels + width * rng.below(places);
+        let id = rng.pick(&[nodes.wrapping_sub(1), nodes, 65_536, u32::MAX]);
+        put_number(form, at, width, id);
     }
 }
 
 /// Random bytes in place of those after the header; each number is often small, so that a reader goes far.
-fn random_body(rng: &mut Rng, form: &mut [u8]) {
+fn random_body(rng: &mut Rng, version: Version, form: &mut [u8]) {
     let small = rng.between(1, 4);
-    for number in form[HEADER_BYTES..].chunks_mut(2) {
+    for number in form[version.header_bytes()..].chunks_mut(version.width) {
         let value = match rng.below(40) {
-            0 => rng.number() as u16,
-            _ => rng.below(small) as u16,
+            0 => rng.number() as u32,
+            _ => rng.below(small) as u32,
         };
         number.copy_from_slice(&value.to_le_bytes()[..number.len()]);
     }

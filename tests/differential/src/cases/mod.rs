@@ -4,14 +4,21 @@ pub mod damage;
 pub mod random;
 pub mod small;
 
-use crate::form::{
-    Drawing, Edge, Sizes, MOST_EDGES, MOST_GLOBALS, MOST_NODES, MOST_PAIRS, MOST_PORTS,
-};
+use crate::form::{self, Drawing, Edge, Sizes, VERSION_1, VERSION_2};
 use crate::rng::Rng;
 
 /// The drawings of document 01's P1 to P9; P3 and P5 ask of P2 and P4.
 pub fn worked_by_hand() -> Vec<Drawing> {
     vec![p1(), p2(), p4(), p6(), p7(), p8(), p9()]
+}
+
+/// The same with so many nodes after their own that they are stored in version 2.
+pub fn outgrown_by_hand() -> Vec<Drawing> {
+    let mut drawings = worked_by_hand();
+    for drawing in &mut drawings {
+        drawing.labels.resize(VERSION_1.most.nodes + 1, 8);
+    }
+    drawings
 }
 
 pub fn p1() -> Drawing {
@@ -61,7 +68,7 @@ pub fn plain(nodes: usize, edges: &[Edge]) -> Drawing {
     }
 }
 
-pub fn edge(label: u32, sources: &[u16], targets: &[u16]) -> Edge {
+pub fn edge(label: u32, sources: &[u32], targets: &[u32]) -> Edge {
     Edge {
         label,
         sources: sources.to_vec(),
@@ -69,16 +76,15 @@ pub fn edge(label: u32, sources: &[u16], targets: &[u16]) -> Edge {
     }
 }
 
-// ---- at the limits
+/// P8 with one global source more than version 1 holds.
+pub fn p8_outgrown() -> Drawing {
+    Drawing {
+        sources: vec![2; VERSION_1.most.sources + 1],
+        ..p8()
+    }
+}
 
-pub const LARGEST: Sizes = Sizes {
-    nodes: MOST_NODES,
-    edges: MOST_EDGES,
-    ports: MOST_PORTS,
-    sources: MOST_GLOBALS,
-    targets: MOST_GLOBALS,
-    pairs: MOST_PAIRS,
-};
+// ---- at the limits
 
 const MIDDLE: Sizes = Sizes {
     nodes: 5,
@@ -89,26 +95,59 @@ const MIDDLE: Sizes = Sizes {
     pairs: 1,
 };
 
-/// Drawings with one size one below its limit, at it and one above it, the others small or the largest there are.
-pub fn at_limits(rng: &mut Rng) -> Vec<Drawing> {
-    type Size = fn(&mut Sizes) -> &mut usize;
-    let limits: [(Size, usize); 6] = [
-        (|sizes| &mut sizes.nodes, MOST_NODES),
-        (|sizes| &mut sizes.edges, MOST_EDGES),
-        (|sizes| &mut sizes.ports, MOST_PORTS),
-        (|sizes| &mut sizes.sources, MOST_GLOBALS),
-        (|sizes| &mut sizes.targets, MOST_GLOBALS),
-        (|sizes| &mut sizes.pairs, MOST_PAIRS),
-    ];
-    let mut drawings = vec![];
-    for (size, most) in limits {
-        for others in [MIDDLE, LARGEST] {
-            for n in [most - 1, most, most + 1] {
-                let mut sizes = others;
-                *size(&mut sizes) = n;
-                drawings.push(random::drawing(rng, sizes));
-            }
+type Size = fn(&mut Sizes) -> &mut usize;
+
+/// The sizes, pairs last.
+const SIZES: [Size; 6] = [
+    |sizes| &mut sizes.nodes,
+    |sizes| &mut sizes.edges,
+    |sizes| &mut sizes.ports,
+    |sizes| &mut sizes.sources,
+    |sizes| &mut sizes.targets,
+    |sizes| &mut sizes.pairs,
+];
+
+/// The limits of the version that a drawing of so many nodes is stored in, as far as they decide.
+pub fn limits(nodes: usize) -> Sizes {
+    let sizes = Sizes {
+        nodes,
+        ..Sizes::default()
+    };
+    sizes.version().most
+}
+
+/// Forms with one size one below a limit of either version, at it and one above it, and the others small, each in version
+/// 1 and in version 2; the same of version 1 with the others the largest there are; and the largest form of all. With
+/// pairs, or without any.
+pub fn at_limits(rng: &mut Rng, pairs: bool) -> Vec<Vec<u8>> {
+    let mut forms = vec![];
+    for version in [VERSION_1, VERSION_2] {
+        for sizes in about(version.most, MIDDLE, pairs) {
+            let drawing = random::drawing(rng, sizes);
+            forms.extend([VERSION_1, VERSION_2].map(|version| form::write_as(version, &drawing)));
         }
     }
-    drawings
+    let largest = about(VERSION_1.most, VERSION_1.most, pairs).chain([VERSION_2.most]);
+    forms.extend(largest.map(|sizes| form::write(&random::drawing(rng, sizes))));
+    forms
+}
+
+/// Forms with one size one below version 2's limit, at it and one above it, and the others the largest there are.
+pub fn at_largest(mut rng: Rng, pairs: bool) -> impl Iterator<Item = Vec<u8>> {
+    let sizes = about(VERSION_2.most, VERSION_2.most, pairs);
+    sizes.map(move |sizes| form::write(&random::drawing(&mut rng, sizes)))
+}
+
+/// Some sizes, with one of them put to one below its limit, to the limit and to one above it.
+fn about(most: Sizes, others: Sizes, pairs: bool) -> impl Iterator<Item = Sizes> {
+    let kinds = if pairs { SIZES.len() } else { SIZES.len() - 1 };
+    (0..3 * kinds).map(move |k| {
+        let mut sizes = others;
+        let size = SIZES[k / 3];
+        *size(&mut sizes) = *size(&mut most.clone()) + k % 3 - 1;
+        if !pairs {
+            sizes.pairs = 0;
+        }
+        sizes
+    })
 }

@@ -18,7 +18,7 @@ pub fn drawings() -> impl Iterator<Item = Drawing> {
 pub fn with_lists(
     [nodes, most_edges, ports, entries]: [usize; 4],
 ) -> impl Iterator<Item = Drawing> {
-    (0..=nodes as u16).flat_map(move |nodes| {
+    (0..=nodes as u32).flat_map(move |nodes| {
         let edges = up_to(most_edges, &edges(nodes, ports));
         combined(nodes, edges, entries, vec![vec![]])
     })
@@ -27,10 +27,10 @@ pub fn with_lists(
 /// All drawings of so many nodes with some of these edges, up to so many entries in each global list and some of these
 /// pairs.
 fn combined(
-    nodes: u16,
+    nodes: u32,
     edges: Vec<Vec<Edge>>,
     entries: usize,
-    pairs: Vec<Vec<(u16, u16)>>,
+    pairs: Vec<Vec<(u32, u32)>>,
 ) -> impl Iterator<Item = Drawing> {
     let lists = up_to(entries, &(0..nodes).collect::<Vec<_>>());
     let total = edges.len() * lists.len() * lists.len() * pairs.len();
@@ -71,13 +71,13 @@ fn up_to<T: Clone>(most: usize, entries: &[T]) -> Vec<Vec<T>> {
     lists
 }
 
-fn pairs_of(nodes: u16) -> Vec<(u16, u16)> {
+fn pairs_of(nodes: u32) -> Vec<(u32, u32)> {
     (0..nodes)
         .flat_map(|v| (0..nodes).map(move |w| (v, w)))
         .collect()
 }
 
-fn operations_and_spiders(nodes: u16) -> Vec<Edge> {
+fn operations_and_spiders(nodes: u32) -> Vec<Edge> {
     let labelled = |edge: Edge| {
         [9, SPIDER].map(|label| Edge {
             label,
@@ -88,7 +88,7 @@ fn operations_and_spiders(nodes: u16) -> Vec<Edge> {
 }
 
 /// All edges with up to so many ports on so many nodes.
-fn edges(nodes: u16, ports: usize) -> Vec<Edge> {
+fn edges(nodes: u32, ports: usize) -> Vec<Edge> {
     let mut edges = vec![];
     for ports in up_to(ports, &(0..nodes).collect::<Vec<_>>()) {
         for split in 0..=ports.len() {
@@ -106,7 +106,7 @@ pub fn graphs(
     mut rng: Rng,
 ) -> impl Iterator<Item = Drawing> {
     let all = (0..=nodes).flat_map(move |nodes| {
-        let edges = edges(nodes as u16, ports);
+        let edges = edges(nodes as u32, ports);
         (0..=most_edges as u32).flat_map(move |count| {
             let edges = edges.clone();
             (0..edges.len().pow(count)).map(move |k| {

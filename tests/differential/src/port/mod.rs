@@ -15,8 +15,9 @@ const ROOT: &str = concat!(env!("CARGO_MANIFEST_DIR"), "/../..");
 /// The most words that a call may have, as in `caller.c`.
 const ARGUMENTS: usize = 12;
 
-/// How many bytes of the work room are filled at a time, as there.
+/// How many bytes of the work room are filled at a time, as there, and how many times where not all of it is.
 const FILLED: u64 = 64;
+const FILLED_PARTS: u64 = 128;
 
 /// One word of a call.
 #[derive(Debug, Clone, Copy)]
@@ -34,8 +35,7 @@ pub struct Room {
     pub length: usize,
     /// Eight bytes that it is filled with before the call, over and over.
     pub fill: u64,
-    /// Whether all of it is filled; else only a part of each KiB, and the rest is as calls before have left it. That
-    /// takes a tenth of the time.
+    /// Whether all of it is filled; else only some parts, and the rest is as calls before have left it.
     pub whole: bool,
 }
 
@@ -139,8 +139,17 @@ impl Process {
             };
         }
         let lengths = [function, image.len(), room.length].map(|n| n as u64);
-        let step = if room.whole { FILLED } else { 1024 };
-        let numbers = [&lengths[..], &[room.fill, step, places, rooms], &arguments].concat();
+        let step = if room.whole {
+            0
+        } else {
+            room.length as u64 / FILLED_PARTS
+        };
+        let numbers = [
+            &lengths[..],
+            &[room.fill, step.max(FILLED), places, rooms],
+            &arguments,
+        ]
+        .concat();
         let mut request: Vec<u8> = numbers.iter().flat_map(|n| n.to_le_bytes()).collect();
         request.extend_from_slice(image);
         self.requests.write_all(&request)?;

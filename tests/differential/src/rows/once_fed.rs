@@ -1,12 +1,12 @@
 //! The once-fed check.
 
-use super::choice::{self, unpaired, without_pairs, yes_or_no};
+use super::choice::{self, unpaired, yes_or_no};
 use crate::arguments::graph_alone;
 use crate::call::{Arguments, Outcome};
 use crate::cases::random::some_ids;
 use crate::cases::{self, edge, plain, small};
 use crate::convert::Graph;
-use crate::form::{self, Drawing, MOST_NODES};
+use crate::form::{self, Drawing, VERSION_1, VERSION_2};
 use crate::operation::Parameter::{Input, Room};
 use crate::operation::{Forms, Group, Operation};
 use crate::rng::Rng;
@@ -26,7 +26,7 @@ const OPERATIONS: &[Operation] = &[Operation {
     number: 18,
     name: "ohg_once_fed",
     parameters: &[Input, Room],
-    refusals: &[1, 2, 3, 4, 5, 6, 8, 10],
+    refusals: &[1, 2, 3, 4, 5, 6, 13, 8, 10],
     picked: Vec::new,
     arguments: graph_alone,
     expected: once_fed,
@@ -50,19 +50,25 @@ pub fn is_once_fed(graph: &Graph) -> bool {
     fed.iter().chain(&used).all(|&times| times == 1)
 }
 
-/// Drawings at the limits, without their pairs, and the largest that are once-fed or nearly so.
+/// Forms at the limits, without pairs, and the largest of either version and the least of version 2 that are once-fed or
+/// nearly so.
 fn fixed(rng: &mut Rng) -> Vec<Vec<u8>> {
-    let at_limits = cases::at_limits(rng).into_iter().map(without_pairs);
-    let largest = (0..8).map(|_| nearly_once_fed(rng, MOST_NODES));
-    let drawings = at_limits.chain(largest);
-    drawings.map(|drawing| form::write(&drawing)).collect()
+    let mut forms = cases::at_limits(rng, false);
+    let [one, two] = [VERSION_1, VERSION_2].map(|version| version.most.nodes);
+    for nodes in [one, one + 1, two] {
+        let drawings = (0..8).map(|_| nearly_once_fed(rng, nodes));
+        forms.extend(drawings.map(|drawing| form::write(&drawing)));
+    }
+    forms
 }
 
 /// All drawings of up to three nodes, two edges with up to two ports each and two entries in each global list; and all
-/// graphs of up to three nodes and two edges with up to three ports each, whose global lists are left to chance.
-fn every(rng: Rng) -> Forms {
+/// graphs of up to three nodes and two edges with up to three ports each, whose global lists are left to chance. And the
+/// largest forms.
+fn every(mut rng: Rng) -> Forms {
+    let largest = cases::at_largest(Rng::new(rng.number()), false);
     let all = small::with_lists([3, 2, 2, 2]).chain(small::graphs([3, 2, 3], false, rng));
-    Box::new(all.map(|drawing| form::write(&drawing)))
+    Box::new(largest.chain(all.map(|drawing| form::write(&drawing))))
 }
 
 fn drawing(rng: &mut Rng, most: usize) -> Drawing {
@@ -78,7 +84,7 @@ fn drawing(rng: &mut Rng, most: usize) -> Drawing {
 fn nearly_once_fed(rng: &mut Rng, nodes: usize) -> Drawing {
     let mut edges = vec![edge(9, &[], &[]); rng.between(1, nodes)];
     let (mut sources, mut targets) = (vec![], vec![]);
-    for node in (0..nodes as u16).rev() {
+    for node in (0..nodes as u32).rev() {
         let [one, other] = [(); 2].map(|_| rng.below(edges.len()));
         let global = [(); 2].map(|_| rng.once_in(4));
         let fed = &mut edges[one].targets;
@@ -119,7 +125,7 @@ mod tests {
         is_once_fed(&to_lax(&drawing))
     }
 
-    fn with_lists(drawing: Drawing, sources: &[u16], targets: &[u16]) -> Drawing {
+    fn with_lists(drawing: Drawing, sources: &[u32], targets: &[u32]) -> Drawing {
         Drawing {
             sources: sources.to_vec(),
             targets: targets.to_vec(),

@@ -4,6 +4,7 @@ mod sections;
 
 use crate::call::{Arguments, Call};
 use crate::compare::{compare, Salt};
+use crate::form;
 use crate::operation::Function;
 use crate::port::Port;
 use sections::{parts, shifted, Sections};
@@ -120,10 +121,11 @@ fn smaller_graphs<'a>(
 
 fn with_shifted_ids(arguments: &Arguments, gone: &Range<usize>) -> Arguments {
     let mut changed = arguments.clone();
+    let width = form::width(arguments.graph());
     for list in &mut changed.inputs[1..] {
-        for id in list.chunks_exact_mut(2) {
-            let new = shifted(usize::from(u16::from_le_bytes([id[0], id[1]])), gone);
-            id.copy_from_slice(&(new as u16).to_le_bytes());
+        for id in list.chunks_exact_mut(width) {
+            let new = shifted(form::number(id, 0, width) as usize, gone);
+            form::put_number(id, 0, width, new as u32);
         }
     }
     for id in &mut changed.numbers {

@@ -1,19 +1,23 @@
 //! The sections of a stored form, and the form without some of their entries.
 
-use crate::form::{number16, HEADER_BYTES};
+use crate::form;
 use std::ops::Range;
 
 /// The sections of a form as far as it goes; it may be damaged.
 pub struct Sections {
+    /// The bytes of an id.
+    width: usize,
     nodes: Section,
     edges: Section,
     /// The lists of ids: of each edge, the global ones, and the pairs.
     lists: Vec<Section>,
 }
 
-/// Entries of a form, and where the 16-bit number that counts them stands.
+/// Entries of a form, and where the number that counts them stands.
 struct Section {
     count_at: usize,
+    /// The bytes of that number.
+    width: usize,
     /// The bytes of each entry; an edge's lie in two places.
     entries: Vec<Vec<Range<usize>>>,
 }
@@ -36,27 +40,31 @@ pub fn shifted(id: usize, gone: &Range<usize>) -> usize {
 
 impl Sections {
     pub fn of(form: &[u8]) -> Option<Self> {
-        if form.len() < HEADER_BYTES {
-            return None;
-        }
-        let mut at = HEADER_BYTES;
-        let nodes = Section::of(form, &mut at, 5, 4);
-        let mut edges = Section::of(form, &mut at, 7, 4);
+        let version = form::version(form).ok()?;
+        let width = version.width;
+        let count_at = |i: usize| 5 + i * width;
+        let mut at = version.header_bytes();
+        let section = |at: &mut usize, count_at: usize, entry: usize| {
+            Section::of(form, at, count_at, width, entry)
+        };
+        let nodes = section(&mut at, count_at(0), 4);
+        let mut edges = section(&mut at, count_at(1), 4);
         let mut lists = vec![];
         for edge in &mut edges.entries {
             let counts = at;
-            if form.len() < counts + 4 {
+            if form.len() < counts + 2 * width {
                 break;
             }
-            at += 4;
-            lists.push(Section::of(form, &mut at, counts, 2));
-            lists.push(Section::of(form, &mut at, counts + 2, 2));
+            at += 2 * width;
+            lists.push(section(&mut at, counts, width));
+            lists.push(section(&mut at, counts + width, width));
             edge.push(counts..at);
         }
-        lists.push(Section::of(form, &mut at, 9, 2));
-        lists.push(Section::of(form, &mut at, 11, 2));
-        lists.push(Section::of(form, &mut at, 13, 4));
+        lists.push(section(&mut at, count_at(2), width));
+        lists.push(section(&mut at, count_at(3), width));
+        lists.push(section(&mut at, count_at(4), 2 * width));
         Some(Sections {
+            width,
             nodes,
             edges,
             lists,
@@ -86,35 +94,34 @@ impl Sections {
         let mut smaller = self.nodes.without(form, gone.clone());
         let moved = form.len() - smaller.len();
         let ids = self.lists.iter().flat_map(|list| list.entries.concat());
-        for at in ids.flat_map(|entry| entry.step_by(2)) {
-            let id = usize::from(number16(form, at));
-            put_number16(&mut smaller, at - moved, shifted(id, &gone));
+        for at in ids.flat_map(|entry| entry.step_by(self.width)) {
+            let id = shifted(form::number(form, at, self.width) as usize, &gone);
+            form::put_number(&mut smaller, at - moved, self.width, id as u32);
         }
         smaller
     }
 }
 
 impl Section {
-    /// As many of the counted entries as there are bytes for, from `at` on.
-    fn of(form: &[u8], at: &mut usize, count_at: usize, width: usize) -> Section {
-        let count = usize::from(number16(form, count_at)).min((form.len() - *at) / width);
+    /// As many of the counted entries of so many bytes as there are bytes for, from `at` on.
+    fn of(form: &[u8], at: &mut usize, count_at: usize, width: usize, bytes: usize) -> Section {
+        let counted = form::number(form, count_at, width) as usize;
+        let count = counted.min((form.len() - *at) / bytes);
         let start = *at;
-        *at += count * width;
-        let entry = |i: usize| std::iter::once(start + i * width..start + (i + 1) * width);
+        *at += count * bytes;
+        let entry = |i: usize| std::iter::once(start + i * bytes..start + (i + 1) * bytes);
         Section {
             count_at,
+            width,
             entries: (0..count).map(|i| entry(i).collect()).collect(),
         }
     }
 
     fn without(&self, form: &[u8], part: Range<usize>) -> Vec<u8> {
         let mut smaller = form.to_vec();
-        let count = usize::from(number16(form, self.count_at));
-        put_number16(
-            &mut smaller,
-            self.count_at,
-            count.saturating_sub(part.len()),
-        );
+        let count = form::number(form, self.count_at, self.width);
+        let left = count.saturating_sub(part.len() as u32);
+        form::put_number(&mut smaller, self.count_at, self.width, left);
         let mut gone = self.entries[part].concat();
         gone.sort_by_key(|range| range.start);
         for range in gone.into_iter().rev() {
@@ -122,8 +129,4 @@ impl Section {
         }
         smaller
     }
-}
-
-fn put_number16(form: &mut [u8], at: usize, number: usize) {
-    form[at..at + 2].copy_from_slice(&(number as u16).to_le_bytes());
 }

@@ -56,8 +56,8 @@ pub fn new_node(arguments: &Arguments) -> Outcome {
 
 pub fn new_edge(arguments: &Arguments) -> Outcome {
     let mut graph = graph(arguments)?;
-    let sources = node_list(&arguments.inputs[1], &graph)?;
-    let targets = node_list(&arguments.inputs[2], &graph)?;
+    let sources = node_list(arguments, 1, &graph)?;
+    let targets = node_list(arguments, 2, &graph)?;
     let label = to_label(arguments.numbers[0]);
     let edge = graph.new_edge(label, Hyperedge { sources, targets });
     made(&graph, edge.0)

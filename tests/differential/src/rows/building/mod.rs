@@ -62,7 +62,7 @@ const OPERATIONS: &[Operation] = &[
         number: 6,
         name: "ohg_new_node",
         parameters: &[Input, Number, Answered],
-        refusals: &[1, 2, 3, 4, 5, 6, 9, 10],
+        refusals: &[1, 2, 3, 4, 5, 6, 13, 9, 10],
         picked: picked::new_node,
         arguments: tries::graph_and_label,
         expected: expected::new_node,
@@ -71,7 +71,7 @@ const OPERATIONS: &[Operation] = &[
         number: 7,
         name: "ohg_new_edge",
         parameters: &[Input, Number, Input, Input, Answered],
-        refusals: &[1, 2, 3, 4, 5, 6, 7, 9, 10],
+        refusals: &[1, 2, 3, 4, 5, 6, 13, 7, 9, 10],
         picked: picked::new_edge,
         arguments: tries::graph_label_and_two_node_lists,
         expected: expected::new_edge,
@@ -80,7 +80,7 @@ const OPERATIONS: &[Operation] = &[
         number: 8,
         name: "ohg_new_operation",
         parameters: &[Input, Number, Input, Input, Answered],
-        refusals: &[1, 2, 3, 4, 5, 6, 7, 9, 10],
+        refusals: &[1, 2, 3, 4, 5, 6, 13, 7, 9, 10],
         picked: picked::new_operation,
         arguments: tries::graph_label_and_two_label_lists,
         expected: expected::new_operation,
@@ -89,7 +89,7 @@ const OPERATIONS: &[Operation] = &[
         number: 9,
         name: "ohg_unify",
         parameters: &[Input, Number, Number, Answered],
-        refusals: &[1, 2, 3, 4, 5, 6, 7, 9, 10],
+        refusals: &[1, 2, 3, 4, 5, 6, 13, 7, 9, 10],
         picked: picked::unify,
         arguments: tries::graph_and_two_nodes,
         expected: expected::unify,
@@ -98,7 +98,7 @@ const OPERATIONS: &[Operation] = &[
         number: 10,
         name: "ohg_add_edge_source",
         parameters: &[Input, Number, Number, Answered],
-        refusals: &[1, 2, 3, 4, 5, 6, 7, 9, 10],
+        refusals: &[1, 2, 3, 4, 5, 6, 13, 7, 9, 10],
         picked: picked::add_edge_port,
         arguments: tries::graph_edge_and_label,
         expected: expected::add_edge_source,
@@ -107,7 +107,7 @@ const OPERATIONS: &[Operation] = &[
         number: 11,
         name: "ohg_add_edge_target",
         parameters: &[Input, Number, Number, Answered],
-        refusals: &[1, 2, 3, 4, 5, 6, 7, 9, 10],
+        refusals: &[1, 2, 3, 4, 5, 6, 13, 7, 9, 10],
         picked: picked::add_edge_port,
         arguments: tries::graph_edge_and_label,
         expected: expected::add_edge_target,
@@ -115,9 +115,11 @@ const OPERATIONS: &[Operation] = &[
 ];
 
 fn fixed(rng: &mut Rng) -> Vec<Vec<u8>> {
-    cases::at_limits(rng).iter().map(form::write).collect()
+    cases::at_limits(rng, true)
 }
 
-fn every(rng: Rng) -> Forms {
-    Box::new(small::graphs([3, 2, 3], true, rng).map(|drawing| form::write(&drawing)))
+fn every(mut rng: Rng) -> Forms {
+    let largest = cases::at_largest(Rng::new(rng.number()), true);
+    let small = small::graphs([3, 2, 3], true, rng).map(|drawing| form::write(&drawing));
+    Box::new(largest.chain(small))
 }

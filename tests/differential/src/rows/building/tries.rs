@@ -3,6 +3,7 @@
 use crate::arguments::{broken, counts, id_list};
 use crate::call::Arguments;
 use crate::cases::random::label;
+use crate::form;
 use crate::rng::Rng;
 
 pub fn graph_and_label(graph: &[u8], rng: &mut Rng) -> Vec<Arguments> {
@@ -23,7 +24,8 @@ pub fn graph_edge_and_label(graph: &[u8], rng: &mut Rng) -> Vec<Arguments> {
 
 pub fn graph_label_and_two_node_lists(graph: &[u8], rng: &mut Rng) -> Vec<Arguments> {
     let (nodes, _) = counts(graph);
-    let lists = [id_list(rng, nodes), id_list(rng, nodes)];
+    let width = form::width(graph);
+    let lists = [(); 2].map(|_| id_list(rng, nodes, width));
     vec![Arguments::new(
         &[label(rng)],
         &[graph, &lists[0], &lists[1]],
@@ -76,7 +78,7 @@ fn single_id(rng: &mut Rng, count: usize) -> u32 {
 fn labels(rng: &mut Rng) -> Vec<u8> {
     let n = match rng.below(40) {
         0 => rng.pick(&[1023, 1024, 1025, 2047, 2048, 2049]),
-        1 if rng.once_in(100) => 70_000,
+        1 if rng.once_in(20) => rng.pick(&[8191, 8192, 8193, 16_383, 16_384, 16_385, 70_000]),
         _ => rng.below(5),
     };
     let labels: Vec<u8> = (0..n).flat_map(|_| label(rng).to_le_bytes()).collect();

@@ -9,29 +9,33 @@ struct Arcs {
     incoming: Vec<Vec<usize>>,
 }
 
+/// What remains of a graph, and for each vertex how many arcs lead to it and from it among that.
+struct Rest {
+    arcs: Arcs,
+    left: Vec<bool>,
+    into: Vec<usize>,
+    out: Vec<usize>,
+    /// Vertices that may have lost their last arc in or out.
+    perhaps_loose: Vec<usize>,
+}
+
 /// The chosen nodes, ascending, and the number of vertices removed freely: of each stage, those outside its core.
 pub fn choice(graph: &Graph) -> (Vec<usize>, usize) {
-    let nodes = graph.hypergraph.nodes.len();
-    let arcs = Arcs::of(graph);
-    let mut left = vec![true; arcs.outgoing.len()];
+    let mut rest = Rest::of(graph);
+    // `max_by_key` takes the last of several; from the highest id down that is the lowest.
+    let mut in_core: Vec<usize> = (0..graph.hypergraph.nodes.len()).rev().collect();
     let mut chosen = vec![];
     let mut free = 0;
     loop {
-        let core = arcs.core(&left);
-        free += count(&left) - count(&core);
-        let score = |&node: &usize| {
-            let among_core = |ends: &[usize]| ends.iter().filter(|&&end| core[end]).count();
-            among_core(&arcs.incoming[node]) * among_core(&arcs.outgoing[node])
-        };
-        // `max_by_key` takes the last of several; from the highest id down that is the lowest.
-        let in_core = (0..nodes).rev().filter(|&node| core[node]);
-        let Some(best) = in_core.max_by_key(score) else {
+        free += rest.take_loose();
+        in_core.retain(|&node| rest.left[node]);
+        let score = |node: &&usize| rest.into[**node] * rest.out[**node];
+        let Some(&best) = in_core.iter().max_by_key(score) else {
             chosen.sort_unstable();
             return (chosen, free);
         };
         chosen.push(best);
-        left = core;
-        left[best] = false;
+        rest.take(best);
     }
 }
 
@@ -76,25 +80,44 @@ impl Arcs {
         self.outgoing[from].push(to);
         self.incoming[to].push(from);
     }
-
-    /// What stays when vertices without an arc in or without an arc out are taken away until there is none.
-    fn core(&self, left: &[bool]) -> Vec<bool> {
-        let mut core = left.to_vec();
-        let mut perhaps_loose: Vec<usize> = (0..core.len()).collect();
-        while let Some(vertex) = perhaps_loose.pop() {
-            let none_left = |ends: &[usize]| !ends.iter().any(|&end| core[end]);
-            let (from, to) = (&self.incoming[vertex], &self.outgoing[vertex]);
-            if core[vertex] && (none_left(from) || none_left(to)) {
-                core[vertex] = false;
-                perhaps_loose.extend(from.iter().chain(to));
-            }
-        }
-        core
-    }
 }
 
-fn count(left: &[bool]) -> usize {
-    left.iter().filter(|&&left| left).count()
+impl Rest {
+    fn of(graph: &Graph) -> Self {
+        let arcs = Arcs::of(graph);
+        Rest {
+            left: vec![true; arcs.outgoing.len()],
+            into: arcs.incoming.iter().map(Vec::len).collect(),
+            out: arcs.outgoing.iter().map(Vec::len).collect(),
+            perhaps_loose: (0..arcs.outgoing.len()).collect(),
+            arcs,
+        }
+    }
+
+    fn take(&mut self, vertex: usize) {
+        self.left[vertex] = false;
+        for &to in &self.arcs.outgoing[vertex] {
+            self.into[to] -= 1;
+            self.perhaps_loose.push(to);
+        }
+        for &from in &self.arcs.incoming[vertex] {
+            self.out[from] -= 1;
+            self.perhaps_loose.push(from);
+        }
+    }
+
+    /// Takes away vertices without an arc in or without an arc out until there is none, and says how many these were. The
+    /// core is left.
+    fn take_loose(&mut self) -> usize {
+        let mut taken = 0;
+        while let Some(vertex) = self.perhaps_loose.pop() {
+            if self.left[vertex] && (self.into[vertex] == 0 || self.out[vertex] == 0) {
+                self.take(vertex);
+                taken += 1;
+            }
+        }
+        taken
+    }
 }
 
 #[cfg(test)]
@@ -108,7 +131,9 @@ mod tests {
     #[test]
     fn the_core_is_the_largest_set_with_arcs_in_and_out_within_it() {
         for drawing in small::graphs([2, 2, 3], false, Rng::new(1)) {
-            let arcs = Arcs::of(&to_lax(&drawing));
+            let mut rest = Rest::of(&to_lax(&drawing));
+            rest.take_loose();
+            let arcs = &rest.arcs;
             let vertices = arcs.outgoing.len();
             let stays = |set: usize| {
                 let within = |ends: &[usize]| ends.iter().any(|end| set >> end & 1 == 1);
@@ -118,8 +143,7 @@ mod tests {
             };
             let all = (0..1 << vertices).filter(|&set| stays(set));
             let largest = all.fold(0, |union, set| union | set);
-            let core = arcs.core(&vec![true; vertices]);
-            assert!((0..vertices).all(|v| core[v] == (largest >> v & 1 == 1)));
+            assert!((0..vertices).all(|v| rest.left[v] == (largest >> v & 1 == 1)));
         }
     }
 }

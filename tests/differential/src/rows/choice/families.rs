@@ -1,11 +1,12 @@
 //! Drawings of a shape that the choice depends on: loops of several kinds, hubs, trees, ties.
 
 use crate::cases::random::{label, some_ids};
-use crate::cases::{edge, plain};
-use crate::form::{Drawing, Edge, MOST_EDGES, MOST_NODES, MOST_PORTS};
+use crate::cases::{edge, limits, plain};
+use crate::form::{Drawing, Edge};
 use crate::rng::Rng;
 
-/// A family gives a drawing of so many nodes, of which there is at least one, and of no more edges.
+/// A family gives a drawing of so many nodes, of which there is at least one, and of no more edges, within the limits of
+/// the version that so many nodes go with.
 pub type Family = fn(&mut Rng, usize) -> Drawing;
 
 pub const FAMILIES: [Family; 9] = [
@@ -27,7 +28,7 @@ pub fn sparse(rng: &mut Rng, nodes: usize) -> Drawing {
 
 /// As many edges as nodes, each with up to eight sources and eight targets by chance.
 pub fn dense(rng: &mut Rng, nodes: usize) -> Drawing {
-    by_chance(rng, nodes, (MOST_PORTS / 2 / nodes).min(8))
+    by_chance(rng, nodes, (limits(nodes).ports / 2 / nodes).min(8))
 }
 
 fn by_chance(rng: &mut Rng, nodes: usize, ends: usize) -> Drawing {
@@ -57,32 +58,60 @@ pub fn rings(nodes: usize, of: usize) -> Drawing {
             start
         }
     };
-    let edges = (0..nodes).map(|node| edge(9, &[node as u16], &[next(node) as u16]));
+    let edges = (0..nodes).map(|node| edge(9, &[node as u32], &[next(node) as u32]));
     plain(nodes, &edges.collect::<Vec<_>>())
 }
 
 /// All nodes in one ring, each entered as many times at the edge to it as at the edge from it; now and then some of them
 /// very often, so that scores are large.
 pub fn heavy_ring(rng: &mut Rng, nodes: usize) -> Drawing {
-    let most = if rng.once_in(8) { MOST_PORTS } else { 4 };
-    let most = most.min(MOST_PORTS / 2 / nodes);
-    let entries: Vec<Vec<u16>> = (0..nodes)
-        .map(|node| vec![node as u16; rng.between(1, most)])
+    let ports = limits(nodes).ports;
+    let most = if rng.once_in(8) { ports } else { 4 };
+    let most = most.min(ports / 2 / nodes);
+    let entries: Vec<Vec<u32>> = (0..nodes)
+        .map(|node| vec![node as u32; rng.between(1, most)])
         .collect();
     let edges = (0..nodes).map(|node| edge(9, &entries[node], &entries[(node + 1) % nodes]));
     plain(nodes, &edges.collect::<Vec<_>>())
 }
 
+/// Drawings of so many ports, of which there are a multiple of four: the largest score that there can be, alone and beside
+/// others; a node and an edge with all ports but one on one side, and with all of them; and the longest queues of
+/// candidates, since an edge that leads nowhere is removed freely and with it as many entries of nodes that stay.
+pub fn heaviest(ports: usize) -> Vec<Drawing> {
+    let (half, quarter) = (ports / 2, ports / 4);
+    let on = |node: u32, sources: usize, targets: usize| {
+        edge(9, &vec![node; sources], &vec![node; targets])
+    };
+    let all: Vec<u32> = (0..quarter as u32).collect();
+    vec![
+        plain(1, &[on(0, half, half)]),
+        plain(2, &[on(0, quarter, quarter), on(1, quarter, quarter)]),
+        plain(2, &[on(0, 1, half - 1), on(1, quarter, quarter)]),
+        plain(1, &[on(0, ports - 1, 1)]),
+        plain(1, &[on(0, 1, ports - 1)]),
+        plain(1, &[on(0, ports, 0)]),
+        plain(1, &[on(0, 0, ports)]),
+        plain(1, &[on(0, half, 0), on(0, 0, half)]),
+        plain(1, &[on(0, 1, 1), on(0, ports - 2, 0)]),
+        plain(1, &[on(0, 0, ports - 2), on(0, 1, 1)]),
+        plain(
+            quarter,
+            &[edge(9, &all, &all), edge(9, &all.repeat(2), &[])],
+        ),
+    ]
+}
+
 /// Each node but the first is fed by one before it: no loop.
 pub fn tree(rng: &mut Rng, nodes: usize) -> Drawing {
-    let edges = (1..nodes).map(|node| edge(9, &[rng.below(node) as u16], &[node as u16]));
+    let edges = (1..nodes).map(|node| edge(9, &[rng.below(node) as u32], &[node as u32]));
     plain(nodes, &edges.collect::<Vec<_>>())
 }
 
 /// The first node feeds all others, two by an edge, and is fed by them.
 pub fn hub(_: &mut Rng, nodes: usize) -> Drawing {
-    let others: Vec<u16> = (1..nodes as u16).collect();
-    let both_ways = |two: &[u16]| [edge(9, &[0], two), edge(9, two, &[0])];
+    let others: Vec<u32> = (1..nodes as u32).collect();
+    let both_ways = |two: &[u32]| [edge(9, &[0], two), edge(9, two, &[0])];
     let edges = others.chunks_exact(2).flat_map(both_ways);
     plain(nodes, &edges.collect::<Vec<_>>())
 }
@@ -92,8 +121,8 @@ fn ladder(_: &mut Rng, nodes: usize) -> Drawing {
     let half = nodes / 2;
     let rung = |i: usize| {
         let next = (i + 1) % half;
-        let [here, beside] = [i, half + i].map(|node| node as u16);
-        let [after, after_beside] = [next, half + next].map(|node| node as u16);
+        let [here, beside] = [i, half + i].map(|node| node as u32);
+        let [after, after_beside] = [next, half + next].map(|node| node as u32);
         [
             edge(9, &[here], &[after, beside]),
             edge(9, &[beside], &[after_beside, here]),
@@ -104,7 +133,7 @@ fn ladder(_: &mut Rng, nodes: usize) -> Drawing {
 
 /// Each node with an edge from it to itself, entered up to twice either way.
 fn self_loops(rng: &mut Rng, nodes: usize) -> Drawing {
-    let mut entries = |node: usize| vec![node as u16; rng.between(1, 2)];
+    let mut entries = |node: usize| vec![node as u32; rng.between(1, 2)];
     let edges = (0..nodes).map(|node| edge(9, &entries(node), &entries(node)));
     plain(nodes, &edges.collect::<Vec<_>>())
 }
@@ -134,11 +163,12 @@ pub fn mixed(rng: &mut Rng, most: usize) -> Drawing {
 /// The second drawing's nodes and edges after the first's, where both go within the limits.
 fn add_beside(drawing: &mut Drawing, more: Drawing) {
     let (size, other) = (drawing.sizes(), more.sizes());
-    if size.nodes + other.nodes > MOST_NODES || size.ports + other.ports > MOST_PORTS {
+    let most = limits(size.nodes.max(other.nodes));
+    if size.nodes + other.nodes > most.nodes || size.ports + other.ports > most.ports {
         return;
     }
     for edge in more.edges {
-        let moved = |ids: Vec<u16>| ids.iter().map(|id| id + size.nodes as u16).collect();
+        let moved = |ids: Vec<u32>| ids.iter().map(|id| id + size.nodes as u32).collect();
         drawing.edges.push(Edge {
             label: edge.label,
             sources: moved(edge.sources),
@@ -150,7 +180,8 @@ fn add_beside(drawing: &mut Drawing, more: Drawing) {
 
 /// Enters some ports again, as many times as there are edges.
 fn repeat_ports(rng: &mut Rng, drawing: &mut Drawing) {
-    let space = MOST_PORTS - drawing.sizes().ports;
+    let size = drawing.sizes();
+    let space = limits(size.nodes).ports - size.ports;
     for _ in 0..drawing.edges.len().min(space) {
         let at = rng.below(drawing.edges.len());
         let edge = &mut drawing.edges[at];
@@ -168,20 +199,21 @@ fn repeat_ports(rng: &mut Rng, drawing: &mut Drawing) {
 /// Up to three edges from one node to another.
 fn add_across(rng: &mut Rng, drawing: &mut Drawing) {
     let size = drawing.sizes();
-    let space = (MOST_EDGES - size.edges).min((MOST_PORTS - size.ports) / 2);
+    let most = limits(size.nodes);
+    let space = (most.edges - size.edges).min((most.ports - size.ports) / 2);
     for _ in 0..rng.between(1, 3).min(space) {
-        let [from, to] = [(); 2].map(|_| rng.below(size.nodes) as u16);
+        let [from, to] = [(); 2].map(|_| rng.below(size.nodes) as u32);
         drawing.edges.push(edge(9, &[from], &[to]));
     }
 }
 
 /// Numbers the nodes in another order, and the edges too.
 fn shuffle(rng: &mut Rng, drawing: &mut Drawing) {
-    let mut new: Vec<u16> = (0..drawing.labels.len() as u16).collect();
+    let mut new: Vec<u32> = (0..drawing.labels.len() as u32).collect();
     reorder(rng, &mut new);
     for edge in &mut drawing.edges {
         for id in edge.sources.iter_mut().chain(&mut edge.targets) {
-            *id = new[usize::from(*id)];
+            *id = new[*id as usize];
         }
     }
     reorder(rng, &mut drawing.edges);
@@ -214,12 +246,20 @@ mod tests {
     fn every_drawing_is_within_the_limits() {
         let mut rng = Rng::new(1);
         for family in FAMILIES {
-            for nodes in [1, 2, 3, 50, 2047, 2048] {
-                assert!(family(&mut rng, nodes).sizes().within_limits());
+            for nodes in [1, 2, 3, 50, 2047, 2048, 2049, 16_383, 16_384] {
+                let sizes = family(&mut rng, nodes).sizes();
+                assert!(sizes.within(&limits(nodes)));
             }
         }
-        for _ in 0..200 {
-            assert!(mixed(&mut rng, 2048).sizes().within_limits());
+        for most in [2048, 16_384] {
+            for _ in 0..200 {
+                assert!(mixed(&mut rng, most).sizes().within(&limits(most)));
+            }
+        }
+        for ports in [8192, 65_536] {
+            for drawing in heaviest(ports) {
+                assert_eq!(drawing.sizes().ports, ports);
+            }
         }
     }
 

@@ -7,7 +7,7 @@ use crate::arguments::graph_alone;
 use crate::call::{Answer, Arguments, Outcome};
 use crate::cases::{self, random, small};
 use crate::convert::Graph;
-use crate::form::{self, id_bytes, Drawing, Refusal, MOST_NODES};
+use crate::form::{self, id_bytes, Drawing, Refusal, VERSION_1, VERSION_2};
 use crate::operation::Parameter::{Answered, Input, Room};
 use crate::operation::{Forms, Group, Operation};
 use crate::rng::Rng;
@@ -30,7 +30,7 @@ const OPERATIONS: &[Operation] = &[
         number: 14,
         name: "ohg_cycle_breaking_nodes",
         parameters: &[Input, Answered, Room],
-        refusals: &[1, 2, 3, 4, 5, 6, 8, 10],
+        refusals: &[1, 2, 3, 4, 5, 6, 13, 8, 10],
         picked: Vec::new,
         arguments: graph_alone,
         expected: cycle_breaking_nodes,
@@ -39,14 +39,14 @@ const OPERATIONS: &[Operation] = &[
         number: 17,
         name: "ohg_no_loop",
         parameters: &[Input, Room],
-        refusals: &[1, 2, 3, 4, 5, 6, 8, 10],
+        refusals: &[1, 2, 3, 4, 5, 6, 13, 8, 10],
         picked: Vec::new,
         arguments: graph_alone,
         expected: no_loop,
     },
 ];
 
-/// 1 to 6, and 8.
+/// 1 to 6, 13 and 8.
 pub fn unpaired(arguments: &Arguments) -> Checked<Graph> {
     let graph = graph(arguments)?;
     if graph.hypergraph.is_strict() {
@@ -66,7 +66,7 @@ fn cycle_breaking_nodes(arguments: &Arguments) -> Outcome {
     Ok(Answer {
         a: chosen.len() as u32,
         b: free as u32,
-        written: vec![id_bytes(chosen)],
+        written: vec![id_bytes(chosen, form::width(arguments.graph()))],
     })
 }
 
@@ -83,23 +83,29 @@ pub fn yes_or_no(yes: bool) -> Answer {
     }
 }
 
-/// Drawings at the limits, without their pairs, the largest of each family, and rings with large scores.
+/// Forms at the limits, without pairs, the largest of each family in either version, and rings with large scores.
 fn fixed(rng: &mut Rng) -> Vec<Vec<u8>> {
-    let at_limits = cases::at_limits(rng).into_iter().map(without_pairs);
-    let largest = families::FAMILIES.map(|family| family(rng, MOST_NODES));
+    let mut forms = cases::at_limits(rng, false);
+    let mut largest = vec![];
+    for version in [VERSION_1, VERSION_2] {
+        largest.extend(families::FAMILIES.map(|family| family(rng, version.most.nodes)));
+        largest.extend(families::heaviest(version.most.ports));
+    }
     let heavy = (0..32).map(|i| families::heavy_ring(rng, 1 + i % 4));
-    let drawings = at_limits.chain(largest).chain(heavy);
-    drawings.map(|drawing| form::write(&drawing)).collect()
+    let drawings = largest.into_iter().chain(heavy);
+    forms.extend(drawings.map(|drawing| form::write(&drawing)));
+    forms
 }
 
 /// All multigraphs of up to three nodes and two edges with up to four ports each; with three edges, up to two ports
-/// each, and up to three on two nodes.
+/// each, and up to three on two nodes. And the largest forms.
 fn every(mut rng: Rng) -> Forms {
+    let largest = cases::at_largest(Rng::new(rng.number()), false);
     let mut graphs = |sizes| small::graphs(sizes, false, Rng::new(rng.number()));
     let all = graphs([3, 2, 4])
         .chain(graphs([3, 3, 2]))
         .chain(graphs([2, 3, 3]));
-    Box::new(all.map(|drawing| form::write(&drawing)))
+    Box::new(largest.chain(all.map(|drawing| form::write(&drawing))))
 }
 
 /// One of a family, or any other; one in sixteen of these may have pairs.
@@ -139,13 +145,23 @@ mod tests {
 
     #[test]
     fn the_choices_worked_by_hand() {
-        assert_eq!(chosen(p1()), (id_bytes([]), 0));
-        assert_eq!(chosen(p2()), (id_bytes([0]), 1));
-        assert_eq!(chosen(p4()), (id_bytes([]), 1));
-        assert_eq!(chosen(p6()), (id_bytes([0]), 3));
-        assert_eq!(chosen(p7()), (id_bytes([0, 1, 2]), 2));
+        assert_eq!(chosen(p1()), (id_bytes([], 2), 0));
+        assert_eq!(chosen(p2()), (id_bytes([0], 2), 1));
+        assert_eq!(chosen(p4()), (id_bytes([], 2), 1));
+        assert_eq!(chosen(p6()), (id_bytes([0], 2), 3));
+        assert_eq!(chosen(p7()), (id_bytes([0, 1, 2], 2), 2));
         let refused = cycle_breaking_nodes(&on(&p9())).map(|answer| answer.a);
         assert_eq!(refused, Err(Refusal::Pair));
+    }
+
+    /// P7 with as many nodes that are no part of it as make it version 2.
+    #[test]
+    fn a_list_is_as_wide_as_the_graph_that_was_read() {
+        let outgrown = Drawing {
+            labels: vec![7; 2049],
+            ..p7()
+        };
+        assert_eq!(chosen(outgrown), (id_bytes([0, 1, 2], 4), 2 + 2046));
     }
 
     #[test]

@@ -14,15 +14,15 @@ const CYCLE_BREAKING_NODES: u8 = 14;
 const SPIDERIZE_NODES: u8 = 16;
 const NO_LOOP: u8 = 17;
 
-/// Follows the chain on the small graphs that spiderizing is tried on, and on more by chance.
+/// Follows the chain on the graphs that spiderizing is tried on, large and small, and on more by chance.
 pub fn follow(run: &mut Run, amount: Amount) {
     let end = run.calls() + SHARE * amount.per_share;
-    for form in run.every(&GROUP, amount) {
+    let fixed = (GROUP.fixed)(&mut run.rng).into_iter();
+    for form in fixed.chain(run.every(&GROUP, amount)) {
         follow_on(run, &form);
     }
     while run.calls() < end {
-        let most = random::size(&mut run.rng);
-        let drawing = (GROUP.drawing)(&mut run.rng, most);
+        let drawing = random::drawing_for(&mut run.rng, &GROUP);
         follow_on(run, &form::write(&drawing));
     }
 }
