@@ -1,17 +1,18 @@
-//! Two builds of the port beside each other, in one process: an earlier one and a newer one, each as a shared library, so
-//! that the same names can stand in both.
+//! Two builds of the port beside each other, in one process: an earlier one and a newer one.
 
-use crate::choice;
-use crate::drawings::{every_eighth, label_bytes, several, size, FAMILIES};
+use crate::choice::{NODES_1, NODES_2};
+use crate::drawings::{every_eighth, label_bytes, list_for, several, size, FAMILIES};
 use crate::inputs::{
     Inputs, BARE, EIGHTH_TO_SPIDERIZE, GLOBAL_NODES, NODES, ONE_EDGE, RANDOM, RINGS, TO_ADD_TO,
     TO_SPIDERIZE, TREES,
 };
-use crate::table::{print_cells, print_head, print_rounds};
+use crate::port::{place, Build};
+use crate::sides::{answered, MOST_LIST_BYTES};
+use crate::table::{geometric_mean, print_cells, print_head, print_rounds};
 use crate::timing::{medians, Side};
-use differential::form::{id_bytes, MOST_BYTES};
-use std::ffi::{c_char, c_int, c_void, CString};
-use std::mem::transmute_copy;
+use differential::form::{Version, VERSION_1, VERSION_2};
+use std::mem::transmute;
+use std::path::Path;
 
 /// Longer than the work room of any function.
 const MOST_ROOM: usize = 1 << 24;
@@ -19,45 +20,6 @@ const MOST_ROOM: usize = 1 << 24;
 /// The slices and numbers of a call: what is read, what is written.
 type In = (*const u8, usize);
 type Out = (*mut u8, usize);
-
-extern "C" {
-    fn dlopen(file: *const c_char, flags: c_int) -> *mut c_void;
-    fn dlsym(library: *mut c_void, name: *const c_char) -> *mut c_void;
-}
-
-/// Every name is looked up at once, and seen by nobody else.
-const NOW_AND_LOCAL: c_int = 2;
-
-struct Library(*mut c_void);
-
-impl Library {
-    fn open(file: &str) -> Result<Library, String> {
-        let path = std::fs::canonicalize(file).map_err(|e| format!("{file}: {e}"))?;
-        let name = CString::new(path.to_string_lossy().as_bytes()).expect("a path has no NUL");
-        // SAFETY: opening one of our libraries runs no code.
-        let library = unsafe { dlopen(name.as_ptr(), NOW_AND_LOCAL) };
-        if library.is_null() {
-            return Err(format!("{file} can't be opened as a shared library"));
-        }
-        Ok(Library(library))
-    }
-
-    fn symbol(&self, name: &str) -> *mut c_void {
-        let symbol = CString::new(name).expect("a name has no NUL");
-        // SAFETY: the handle is open.
-        unsafe { dlsym(self.0, symbol.as_ptr()) }
-    }
-
-    /// A function by its name, of the type that the header gives it.
-    fn function<F: Copy>(&self, name: &str) -> Result<F, String> {
-        let found = self.symbol(name);
-        if found.is_null() {
-            return Err(format!("no {name} in a library"));
-        }
-        // SAFETY: F is a function's type, as wide as a pointer.
-        Ok(unsafe { transmute_copy(&found) })
-    }
-}
 
 fn lent(bytes: &[u8]) -> In {
     (bytes.as_ptr(), bytes.len())
@@ -73,39 +35,47 @@ struct Lent {
 
 impl Lent {
     fn new(list: Vec<u8>) -> Lent {
-        let [out, map] = [MOST_BYTES; 2].map(|bytes| vec![0; bytes]);
-        let room = vec![0; MOST_ROOM];
         Lent {
-            out,
-            map,
-            room,
+            out: vec![0; VERSION_2.most_bytes()],
+            map: vec![0; MOST_LIST_BYTES],
+            room: vec![0; MOST_ROOM],
             list,
         }
     }
 }
 
-type Call = Box<dyn FnMut(&Vec<u8>) -> u64>;
+type Call = Box<dyn Fn(&[u8], &mut Lent) -> u64>;
 
-/// A call of one library on an input, with whatever else it takes: numbers 0 and 1, a short list, and enough room.
-fn call(library: &Library, name: &str, list: Vec<u8>) -> Result<Call, String> {
-    let mut lent_too = Lent::new(list);
+/// A call of a build, at the place of now, with whatever else it takes: numbers 0 and 1, a short list, and enough room.
+fn call(build: &Build, name: &str) -> Result<Call, String> {
+    let calls = build
+        .addresses(name)
+        .ok_or(format!("no {name} in an archive"))?;
+    let calls = calls.into_iter().map(|address| call_at(address, name));
+    let calls = calls.collect::<Result<Vec<Call>, String>>()?;
+    Ok(Box::new(move |src, lent| calls[place()](src, lent)))
+}
+
+/// The call of a function that stands at an address.
+fn call_at(address: usize, name: &str) -> Result<Call, String> {
     macro_rules! function {
         ($($part:ty),*) => {
-            library.function::<unsafe extern "C" fn($($part),*) -> u64>(name)?
+            // SAFETY: this is the type that the header gives to the function of this name.
+            unsafe { transmute::<*const (), unsafe extern "C" fn($($part),*) -> u64>(address as *const ()) }
         };
     }
     // SAFETY, of all: each part is lent for the call, with its own length.
     Ok(match name {
         "ohg_read" | "ohg_rewrite" | "ohg_discrete" | "ohg_identity" => {
             let f = function!(*const u8, usize, *mut u8, usize);
-            Box::new(move |src| {
+            Box::new(move |src, lent_too| {
                 let (s, out) = (lent(src), writable(&mut lent_too.out));
                 unsafe { f(s.0, s.1, out.0, out.1) }
             })
         }
         "ohg_singleton" => {
             let f = function!(u32, *const u8, usize, *const u8, usize, *mut u8, usize);
-            Box::new(move |src| {
+            Box::new(move |src, lent_too| {
                 let middle = src.len() / 8 * 4;
                 let (a, b) = (lent(&src[..middle]), lent(&src[middle..]));
                 let out = writable(&mut lent_too.out);
@@ -114,14 +84,14 @@ fn call(library: &Library, name: &str, list: Vec<u8>) -> Result<Call, String> {
         }
         "ohg_new_node" => {
             let f = function!(*const u8, usize, u32, *mut u8, usize);
-            Box::new(move |src| {
+            Box::new(move |src, lent_too| {
                 let (s, out) = (lent(src), writable(&mut lent_too.out));
                 unsafe { f(s.0, s.1, 0, out.0, out.1) }
             })
         }
         "ohg_unify" | "ohg_add_edge_source" | "ohg_add_edge_target" => {
             let f = function!(*const u8, usize, u32, u32, *mut u8, usize);
-            Box::new(move |src| {
+            Box::new(move |src, lent_too| {
                 let (s, out) = (lent(src), writable(&mut lent_too.out));
                 unsafe { f(s.0, s.1, 1, 0, out.0, out.1) }
             })
@@ -138,7 +108,7 @@ fn call(library: &Library, name: &str, list: Vec<u8>) -> Result<Call, String> {
                 *mut u8,
                 usize
             );
-            Box::new(move |src| {
+            Box::new(move |src, lent_too| {
                 let (s, list) = (lent(src), lent(&lent_too.list));
                 let out = writable(&mut lent_too.out);
                 unsafe { f(s.0, s.1, 0, list.0, list.1, list.0, list.1, out.0, out.1) }
@@ -155,7 +125,7 @@ fn call(library: &Library, name: &str, list: Vec<u8>) -> Result<Call, String> {
                 *mut u8,
                 usize
             );
-            Box::new(move |src| {
+            Box::new(move |src, lent_too| {
                 let (s, list) = (lent(src), lent(&lent_too.list));
                 let (out, room) = (writable(&mut lent_too.out), writable(&mut lent_too.room));
                 unsafe { f(s.0, s.1, list.0, list.1, out.0, out.1, room.0, room.1) }
@@ -174,7 +144,7 @@ fn call(library: &Library, name: &str, list: Vec<u8>) -> Result<Call, String> {
                 *mut u8,
                 usize
             );
-            Box::new(move |src| {
+            Box::new(move |src, lent_too| {
                 let (s, list) = (lent(src), lent(&lent_too.list));
                 let (out, room) = (writable(&mut lent_too.out), writable(&mut lent_too.room));
                 let map = writable(&mut lent_too.map);
@@ -187,7 +157,7 @@ fn call(library: &Library, name: &str, list: Vec<u8>) -> Result<Call, String> {
         }
         "ohg_spiderize" | "ohg_cycle_breaking_nodes" => {
             let f = function!(*const u8, usize, *mut u8, usize, *mut u8, usize);
-            Box::new(move |src| {
+            Box::new(move |src, lent_too| {
                 let (s, out) = (lent(src), writable(&mut lent_too.out));
                 let room = writable(&mut lent_too.room);
                 unsafe { f(s.0, s.1, out.0, out.1, room.0, room.1) }
@@ -195,7 +165,7 @@ fn call(library: &Library, name: &str, list: Vec<u8>) -> Result<Call, String> {
         }
         "ohg_no_loop" | "ohg_once_fed" => {
             let f = function!(*const u8, usize, *mut u8, usize);
-            Box::new(move |src| {
+            Box::new(move |src, lent_too| {
                 let (s, room) = (lent(src), writable(&mut lent_too.room));
                 unsafe { f(s.0, s.1, room.0, room.1) }
             })
@@ -242,16 +212,31 @@ const CALLS: [(&str, Inputs, Beside); 18] = [
     ("ohg_once_fed", RINGS, Beside::Nothing),
 ];
 
+/// A call's sizes up to the largest of version 1 are so many, of which three are measured.
+const SIZES: usize = 8;
+
 /// The two that are measured on every family of drawings too.
 const ON_FAMILIES: [&str; 2] = ["ohg_cycle_breaking_nodes", "ohg_no_loop"];
 
-/// Two libraries, an earlier one and a newer one.
-struct Builds([Library; 2]);
+/// Two builds, an earlier one and a newer one.
+struct Builds([Build; 2]);
 
 impl Builds {
     /// What only one of the two has can't be compared.
     fn have(&self, name: &str) -> bool {
-        self.0.iter().all(|library| !library.symbol(name).is_null())
+        self.0.iter().all(|build| build.addresses(name).is_some())
+    }
+
+    /// Whether both make a graph that only version 2 stores.
+    fn know_version_2(&self) -> Result<bool, String> {
+        let labels = label_bytes(VERSION_1.most.nodes + 1);
+        for build in &self.0 {
+            let call = call(build, "ohg_discrete")?;
+            if answered(call(&labels, &mut Lent::new(vec![]))).is_none() {
+                return Ok(false);
+            }
+        }
+        Ok(true)
     }
 
     /// Measures a call of both by turns, prints a row, and tells the newer one's part of the earlier one's time.
@@ -263,19 +248,25 @@ impl Builds {
         forms: &[Vec<u8>],
         list: Vec<u8>,
     ) -> Result<f64, String> {
-        let mut sides = vec![];
-        let mut due = vec![];
-        for library in &self.0 {
-            let mut call = call(library, name, list.clone())?;
-            due.push(forms.iter().map(&mut call).collect::<Vec<u64>>());
-            sides.push(Side::new(forms, call));
+        let [before, now] = self.0.each_ref().map(|build| call(build, name));
+        let [before, now] = [before?, now?];
+        let [mut lent, mut lent_now] = [(); 2].map(|_| Lent::new(list.clone()));
+        for form in forms {
+            let returned = before(form, &mut lent);
+            if answered(returned).is_none() {
+                return Err(format!("{name} is refused at {size} nodes + ports"));
+            }
+            let alike = returned == now(form, &mut lent_now);
+            if !alike || lent.out != lent_now.out || lent.map != lent_now.map {
+                return Err(format!(
+                    "{name} answers differently at {size} nodes + ports"
+                ));
+            }
         }
-        if due[0] != due[1] {
-            return Err(format!(
-                "{name} answers differently at {size} nodes + ports"
-            ));
-        }
-        let times = medians(sides);
+        let times = medians(vec![
+            Side::new(forms, |form| before(form, &mut lent)),
+            Side::new(forms, |form| now(form, &mut lent_now)),
+        ]);
         let ratio = times[1] / times[0];
         let cells = [format!("`{name}`"), on.to_string(), size.to_string()];
         let numbers = [
@@ -301,8 +292,7 @@ fn print_table_head() {
 }
 
 fn print_mean(ratios: &[f64]) {
-    let sum: f64 = ratios.iter().map(|ratio| ratio.ln()).sum();
-    let mean = (sum / ratios.len() as f64).exp();
+    let mean = geometric_mean(ratios.iter().copied());
     let blank = String::new;
     print_cells([
         String::from("geometric mean"),
@@ -314,19 +304,19 @@ fn print_mean(ratios: &[f64]) {
     ]);
 }
 
-/// Makes one call so many times on its largest inputs, and nothing else: for a tool that counts what a program does. Twice, with
-/// none and with some, the difference is the calls'.
-pub fn make_calls(library: &str, name: &str, times: &str) -> Result<(), String> {
+/// Makes one call so many times on its largest inputs of version 1, and nothing else: for a tool that counts what a program
+/// does. Twice, with none and with some, the difference is the calls'.
+pub fn make_calls(archive: &str, name: &str, times: &str) -> Result<(), String> {
     let times: usize = times.parse().map_err(|_| format!("{times} is no number"))?;
     let listed = CALLS.iter().find(|(call, ..)| *call == name);
     let Some((_, inputs, Beside::Nothing)) = listed else {
         return Err(format!("no call of {name} without a list is known"));
     };
-    let numbers = inputs.numbers();
-    let (size, forms) = (inputs.of)(numbers[numbers.len() - 1]);
-    let mut call = call(&Library::open(library)?, name, vec![])?;
+    let (size, forms) = (inputs.of)(inputs.most(VERSION_1));
+    let call = call(&Build::open(Path::new(archive))?, name)?;
+    let mut lent = Lent::new(vec![]);
     for form in forms.iter().cycle().take(times) {
-        call(form);
+        call(form, &mut lent);
     }
     println!(
         "{times} calls of {name} on {}, {size} nodes + ports",
@@ -335,30 +325,35 @@ pub fn make_calls(library: &str, name: &str, times: &str) -> Result<(), String> 
     Ok(())
 }
 
-/// Measures every call of two libraries, at a small size, a middle one and the largest, and prints a table; then a table
-/// for each of those that the drawing's shape matters to, on every family.
+/// Measures every call of two builds on drawings of version 1, and on some of version 2 if both know it.
 pub fn measure(before: &str, now: &str) -> Result<(), String> {
-    let builds = Builds([Library::open(before)?, Library::open(now)?]);
+    let [before, now] = [before, now].map(|archive| Build::open(Path::new(archive)));
+    let builds = Builds([before?, now?]);
     print_rounds();
-    println!();
+    measure_version(&builds, VERSION_1, &NODES_1)?;
+    if builds.know_version_2()? {
+        measure_version(&builds, VERSION_2, &NODES_2)?;
+    }
+    Ok(())
+}
+
+/// Measures every call and prints a table; then a table for each of those that the drawing's shape matters to, on every
+/// family with these numbers of nodes.
+fn measure_version(builds: &Builds, version: Version, nodes: &[usize]) -> Result<(), String> {
+    println!("\nVersion {}:\n", version.number);
     print_table_head();
     let mut ratios = vec![];
     for (name, inputs, beside) in CALLS {
         if !builds.have(name) {
             continue;
         }
-        let numbers = inputs.numbers();
-        for number in [
-            numbers[1],
-            numbers[numbers.len() / 2],
-            numbers[numbers.len() - 1],
-        ] {
+        for number in numbers(&inputs, version) {
             let (size, forms) = (inputs.of)(number);
             let list = match beside {
                 Beside::Nothing => vec![],
-                Beside::Ids => id_bytes([0, 1]),
+                Beside::Ids => list_for(&forms, [0, 1]),
                 Beside::Labels => label_bytes(2),
-                Beside::EveryEighth => id_bytes(every_eighth(&forms)),
+                Beside::EveryEighth => list_for(&forms, every_eighth(&forms)),
             };
             ratios.push(builds.row(name, inputs.words, size, &forms, list)?);
         }
@@ -371,7 +366,7 @@ pub fn measure(before: &str, now: &str) -> Result<(), String> {
         println!();
         print_table_head();
         let mut ratios = vec![];
-        for nodes in choice::NODES {
+        for &nodes in nodes {
             for (family, make) in FAMILIES {
                 let forms = several(|rng| make(rng, nodes));
                 let on = format!("{family}, {nodes} nodes");
@@ -381,4 +376,15 @@ pub fn measure(before: &str, now: &str) -> Result<(), String> {
         print_mean(&ratios);
     }
     Ok(())
+}
+
+/// Of version 1 a small number, a middle one and the most; of version 2, which has no small ones, a quarter of the most, and
+/// the most.
+fn numbers(inputs: &Inputs, version: Version) -> Vec<usize> {
+    let most = inputs.most(version);
+    if version == VERSION_2 {
+        return vec![most / 4, most];
+    }
+    let numbers = inputs.numbers(version, SIZES);
+    vec![numbers[1], numbers[SIZES / 2], most]
 }

@@ -1,18 +1,18 @@
 //! The choice of cycle-breaking nodes, and the no-loop check.
 
-use crate::drawings::{several, size, FAMILIES};
-use crate::sides::{answered, check_times, ORIGINAL, PLAIN_CHECK};
+use crate::drawings::{several, size, version, FAMILIES, MANY};
+use crate::sides::{answered, check_times, MOST_LIST_BYTES};
 use crate::stored::{decode, decode_all};
-use crate::table::{mean, yes_or_no, Table};
+use crate::table::{mean, yes_or_no, Table, ORIGINAL, PLAIN_CHECK};
 use crate::timing::{medians, Side};
 use differential::convert::Graph;
-use differential::form::{id_bytes, MOST_NODES};
+use differential::form::{id_bytes, width, VERSION_1, VERSION_2};
 use differential::rooms::Rooms;
 use differential::rows::choice::definition;
 use oracle::lax::{cycle, NodeId};
 
 mod exported {
-    extern "C" {
+    crate::port::functions! {
         pub fn ohg_cycle_breaking_nodes(
             src: *const u8,
             src_len: usize,
@@ -44,33 +44,35 @@ fn ohg_no_loop(src: &[u8], room: &mut [u8]) -> u64 {
     unsafe { exported::ohg_no_loop(src.as_ptr(), src.len(), room.as_mut_ptr(), room.len()) }
 }
 
-/// The sizes at which each family is measured.
-pub const NODES: [usize; 3] = [50, 500, 2048];
+/// The nodes with which each family is measured, in version 1 and in version 2.
+pub const NODES_1: [usize; 3] = [50, 500, VERSION_1.most.nodes];
+pub const NODES_2: [usize; 2] = [MANY, VERSION_2.most.nodes];
 
-pub fn measure(rooms: &Rooms) -> Result<(), String> {
+pub fn measure(rooms: &Rooms) -> Result<Vec<Table>, String> {
     let mut room = vec![0; rooms.of("ohg_cycle_breaking_nodes")?];
-    let words = ["family", "nodes", "ports", "chosen (mean)"];
-    let table = Table::begin("`ohg_cycle_breaking_nodes`", &words, &ORIGINAL);
+    let words = &["family", "nodes", "ports", "chosen (mean)"];
+    let mut choice = Table::begin("`ohg_cycle_breaking_nodes`", words, &ORIGINAL);
     let number = |graphs: &[Graph]| mean(graphs.iter().map(|graph| chosen(graph).len()));
-    measure_families(table, number, |forms| {
+    measure_families(&mut choice, number, |forms| {
         cycle_breaking_nodes(forms, &mut room)
     });
 
     let mut room = vec![0; rooms.of("ohg_no_loop")?];
-    let words = ["family", "nodes", "ports", "answer"];
-    let table = Table::begin("`ohg_no_loop`", &words, &PLAIN_CHECK);
+    let words = &["family", "nodes", "ports", "answer"];
+    let mut check = Table::begin("`ohg_no_loop`", words, &PLAIN_CHECK);
     let answers = |graphs: &[Graph]| yes_or_no(graphs.iter().map(definition::no_loop));
-    measure_families(table, answers, |forms| no_loop(forms, &mut room));
-    Ok(())
+    measure_families(&mut check, answers, |forms| no_loop(forms, &mut room));
+    Ok(vec![choice, check])
 }
 
 /// Measures each family at each size, and prints the means over the families. What is answered is told in words.
 fn measure_families(
-    mut table: Table,
+    table: &mut Table,
     answers: impl Fn(&[Graph]) -> String,
     mut times: impl FnMut(&[Vec<u8>]) -> Vec<f64>,
 ) {
-    for nodes in NODES {
+    let sizes = NODES_1.into_iter().chain(NODES_2);
+    for nodes in sizes.clone() {
         for (name, family) in FAMILIES {
             let forms = several(|rng| family(rng, nodes));
             let words = [
@@ -79,14 +81,14 @@ fn measure_families(
                 (size(&forms[0]) - nodes).to_string(),
                 answers(&decode_all(&forms)),
             ];
-            table.row(&words, &times(&forms));
+            table.row(version(&forms[0]), &words, &times(&forms));
         }
     }
-    for (i, nodes) in NODES.iter().enumerate() {
+    for (i, nodes) in sizes.enumerate() {
         let start = i * FAMILIES.len();
         table.mean(&format!("{nodes} nodes"), start..start + FAMILIES.len());
     }
-    table.mean("all", 0..table.rows());
+    table.version_means();
 }
 
 /// The original's choice.
@@ -95,12 +97,15 @@ pub fn chosen(graph: &Graph) -> Vec<NodeId> {
 }
 
 pub fn cycle_breaking_nodes(forms: &[Vec<u8>], room: &mut [u8]) -> Vec<f64> {
-    let stored = |form: &Vec<u8>| id_bytes(chosen(&decode(form)).iter().map(|node| node.0));
-    let mut list = vec![0; 2 * MOST_NODES];
+    let stored = |form: &Vec<u8>| {
+        let nodes = chosen(&decode(form));
+        id_bytes(nodes.iter().map(|node| node.0), width(form))
+    };
+    let mut list = vec![0; MOST_LIST_BYTES];
     for form in forms {
         let due = stored(form);
         let returned = ohg_cycle_breaking_nodes(form, &mut list, room);
-        assert_eq!(answered(returned), Some(due.len() / 2));
+        assert_eq!(answered(returned), Some(due.len() / width(form)));
         assert_eq!(list[..due.len()], due, "the lists agree");
     }
     let graphs = decode_all(forms);

@@ -1,14 +1,13 @@
 //! Deleting edges and nodes.
 
-use crate::drawings::{described, every_eighth, forms_of, sizes};
-use crate::sides::{graph_times, ORIGINAL};
-use crate::table::Table;
-use differential::form::{id_bytes, MOST_NODES};
+use crate::drawings::{described, every_eighth, forms_of, list_for, version, MEASURED};
+use crate::sides::{graph_times, MOST_LIST_BYTES};
+use crate::table::{Table, ORIGINAL};
 use differential::rooms::Rooms;
 use oracle::lax::{EdgeId, NodeId};
 
 mod exported {
-    extern "C" {
+    crate::port::functions! {
         pub fn ohg_delete_edges(
             src: *const u8,
             src_len: usize,
@@ -74,24 +73,25 @@ fn ohg_delete_nodes(
     }
 }
 
-pub fn measure(rooms: &Rooms) -> Result<(), String> {
+pub fn measure(rooms: &Rooms) -> Result<Vec<Table>, String> {
     let mut edges_room = vec![0; rooms.of("ohg_delete_edges")?];
     let mut nodes_room = vec![0; rooms.of("ohg_delete_nodes")?];
     let mut table = Table::begin("Deleting every eighth", &["call", "drawing"], &ORIGINAL);
-    for forms in [sizes(10, 3), sizes(500, 100), sizes(2048, 1024)].map(forms_of) {
+    for forms in MEASURED.map(forms_of) {
+        let version = version(&forms[0]);
         let words = |call: &str| [format!("`{call}`"), described(&forms)];
         let times = delete_edges(&forms, &mut edges_room);
-        table.row(&words("ohg_delete_edges"), &times);
+        table.row(version, &words("ohg_delete_edges"), &times);
         let times = delete_nodes(&forms, &mut nodes_room);
-        table.row(&words("ohg_delete_nodes"), &times);
+        table.row(version, &words("ohg_delete_nodes"), &times);
     }
-    Ok(())
+    Ok(vec![table])
 }
 
 /// Every eighth edge goes; there are as many edges as nodes.
 pub fn delete_edges(forms: &[Vec<u8>], room: &mut [u8]) -> Vec<f64> {
     let ids = every_eighth(forms);
-    let list = id_bytes(ids.clone());
+    let list = list_for(forms, ids.clone());
     let edges: Vec<EdgeId> = ids.map(EdgeId).collect();
     graph_times(
         forms,
@@ -103,9 +103,9 @@ pub fn delete_edges(forms: &[Vec<u8>], room: &mut [u8]) -> Vec<f64> {
 /// Every eighth node goes. The original keeps the map of the nodes to itself.
 pub fn delete_nodes(forms: &[Vec<u8>], room: &mut [u8]) -> Vec<f64> {
     let ids = every_eighth(forms);
-    let list = id_bytes(ids.clone());
+    let list = list_for(forms, ids.clone());
     let nodes: Vec<NodeId> = ids.map(NodeId).collect();
-    let mut map = vec![0; 2 * MOST_NODES];
+    let mut map = vec![0; MOST_LIST_BYTES];
     graph_times(
         forms,
         |src, out| ohg_delete_nodes(src, &list, out, &mut map, room),

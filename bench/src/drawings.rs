@@ -1,6 +1,6 @@
 //! The drawings that are measured.
 
-use differential::form::{self, Drawing, Edge, Sizes, MOST_NODES, MOST_PORTS};
+use differential::form::{self, id_bytes, Drawing, Edge, Sizes, Version, VERSION_1, VERSION_2};
 use differential::rng::Rng;
 use differential::rows::choice::families::{dense, hub, ring, rings, sparse, tree, Family};
 
@@ -14,8 +14,20 @@ pub const FAMILIES: [(&str, Family); 6] = [
     ("hub", hub),
 ];
 
+/// Nodes of the drawings of version 2 that are smaller than the largest.
+pub const MANY: usize = 4000;
+
+/// What is measured of a call that adds nothing, of version 1 and of version 2.
+pub const MEASURED: [Sizes; 5] = [
+    sizes(10, 3),
+    sizes(500, 100),
+    VERSION_1.most,
+    sizes(MANY, MANY / 5),
+    VERSION_2.most,
+];
+
 /// The sizes of a drawing with so many nodes, as many edges, four ports to an edge, and lists of some length.
-pub fn sizes(nodes: usize, lists: usize) -> Sizes {
+pub const fn sizes(nodes: usize, lists: usize) -> Sizes {
     Sizes {
         nodes,
         edges: nodes,
@@ -30,7 +42,7 @@ pub fn sizes(nodes: usize, lists: usize) -> Sizes {
 pub fn forms_of(sizes: Sizes) -> Vec<Vec<u8>> {
     several(|rng| {
         let mut ids =
-            |n: usize| -> Vec<u16> { (0..n).map(|_| rng.below(sizes.nodes) as u16).collect() };
+            |n: usize| -> Vec<u32> { (0..n).map(|_| rng.below(sizes.nodes) as u32).collect() };
         let ports = sizes.ports / sizes.edges;
         Drawing {
             labels: (0..sizes.nodes as u32).collect(),
@@ -48,12 +60,13 @@ pub fn forms_of(sizes: Sizes) -> Vec<Vec<u8>> {
     })
 }
 
-/// The forms of as many drawings as are together about as large as the largest. Of a small one alone, called again and
-/// again, the processor would soon foresee each branch.
+/// The forms of as many drawings as are together about as large as the largest of their version. Of a small one alone,
+/// called again and again, the processor would soon foresee each branch.
 pub fn several(mut drawing: impl FnMut(&mut Rng) -> Drawing) -> Vec<Vec<u8>> {
     let mut rng = Rng::new(1);
     let first = form::write(&drawing(&mut rng));
-    let more = ((MOST_NODES + MOST_PORTS) / size(&first)).max(1) - 1;
+    let most = version(&first).most;
+    let more = ((most.nodes + most.ports) / size(&first)).max(1) - 1;
     let mut forms = vec![first];
     forms.extend((0..more).map(|_| form::write(&drawing(&mut rng))));
     forms
@@ -75,6 +88,16 @@ pub fn every_eighth(forms: &[Vec<u8>]) -> impl Iterator<Item = usize> + Clone {
     (0..nodes(&forms[0])).step_by(8)
 }
 
+/// A list of ids for calls on forms, which are all of one version.
+pub fn list_for(forms: &[Vec<u8>], ids: impl IntoIterator<Item = usize>) -> Vec<u8> {
+    id_bytes(ids, version(&forms[0]).width)
+}
+
+/// The version of a form.
+pub fn version(form: &[u8]) -> Version {
+    form::version(form).expect("it is a good form")
+}
+
 /// What a table says of forms of the same sizes.
 pub fn described(forms: &[Vec<u8>]) -> String {
     let form = &forms[0];
@@ -82,5 +105,5 @@ pub fn described(forms: &[Vec<u8>]) -> String {
 }
 
 fn nodes(form: &[u8]) -> usize {
-    form::number16(form, 5).into()
+    form::sizes(form).expect("it is a good form").nodes
 }

@@ -9,17 +9,22 @@ use crate::deleting::{delete_edges, delete_nodes};
 use crate::drawings::every_eighth;
 use crate::inputs::{
     Inputs, BARE, EIGHTH_TO_SPIDERIZE, GLOBAL_NODES, NODES, NOTHING, ONE_EDGE, RANDOM, RINGS,
-    SIZES, TO_ADD_TO, TO_SPIDERIZE, TREES,
+    TO_ADD_TO, TO_SPIDERIZE, TREES,
 };
 use crate::once_fed::once_fed;
 use crate::plot::{self, Line, Panel};
+use crate::port;
 use crate::reading::{read, rewrite};
 use crate::sides::Times;
 use crate::spidering::{spiderize, spiderize_nodes, Listed};
 use crate::table::{print_cells, print_head, print_rounds};
+use differential::form::VERSION_2;
 use differential::rooms::Rooms;
 use oracle::lax::NodeId;
 use std::fs;
+
+/// How many sizes a call is measured at.
+const SIZES: usize = 11;
 
 const WITHOUT_ROOM: [(&str, Inputs, Times); 12] = [
     ("ohg_read", RANDOM, read),
@@ -58,6 +63,7 @@ fn spiderize_eighth(forms: &[Vec<u8>], room: &mut [u8]) -> Vec<f64> {
 struct Growth {
     call: &'static str,
     inputs: &'static str,
+    end_of_version_1: usize,
     room: usize,
     lines: [Line; 2],
 }
@@ -65,6 +71,7 @@ struct Growth {
 /// Measures each call, prints a table and writes the picture to a file.
 pub fn measure(file: &str) -> Result<(), String> {
     let rooms = Rooms::read()?;
+    port::open_measured()?;
     let mut growths = vec![];
     for (call, inputs, times) in WITHOUT_ROOM {
         growths.push(Growth::of(call, inputs, 0, times));
@@ -77,7 +84,8 @@ pub fn measure(file: &str) -> Result<(), String> {
     }
     print_table(&growths);
     let panels: Vec<Panel> = growths.into_iter().map(Growth::panel).collect();
-    let svg = plot::svg(&panels, ["port", "original, or plain Rust"]);
+    let names = ["port", "original, or plain Rust"];
+    let svg = plot::svg(&panels, names, "version 1 ends");
     fs::write(file, svg).map_err(|e| format!("{file}: {e}"))
 }
 
@@ -89,7 +97,7 @@ impl Growth {
         mut times: impl FnMut(&[Vec<u8>]) -> Vec<f64>,
     ) -> Self {
         let mut lines = [vec![], vec![]];
-        for number in inputs.numbers() {
+        for number in inputs.numbers(VERSION_2, SIZES) {
             let (size, inputs) = (inputs.of)(number);
             let times = times(&inputs);
             lines[0].push([size as f64, times[0]]);
@@ -98,6 +106,7 @@ impl Growth {
         Growth {
             call,
             inputs: inputs.words,
+            end_of_version_1: inputs.end_of_version_1(),
             room,
             lines,
         }
@@ -114,10 +123,20 @@ impl Growth {
         if smallest == largest {
             let [port, beside] = ends.map(|[[_, time], _]| format!("{time:.1} in all"));
             let blank = String::new;
-            cells.extend([blank(), port, blank(), beside, blank(), blank(), blank()]);
+            cells.extend([
+                blank(),
+                blank(),
+                port,
+                blank(),
+                beside,
+                blank(),
+                blank(),
+                blank(),
+            ]);
         } else {
             let each = |[size, time]: [f64; 2]| format!("{:.2}", time / size);
             cells.push(format!("{smallest} to {largest}"));
+            cells.push(self.end_of_version_1.to_string());
             cells.extend(ends.as_flattened().iter().map(|end| each(*end)));
             cells.extend(
                 self.lines
@@ -137,6 +156,7 @@ impl Growth {
         Panel {
             title: self.call,
             notes: [self.inputs.to_string(), growth],
+            mark: self.end_of_version_1 as f64,
             lines: self.lines,
         }
     }
@@ -146,13 +166,14 @@ fn print_table(growths: &[Growth]) {
     print_rounds();
     println!(
         "\nNanoseconds for each node and port of the drawing that is read or made, at the smallest size and at the largest, and the exponent of growth: the slope \
-         of the logarithm of time against that of nodes + ports, over the larger half of {SIZES} sizes. *Beside* is the original from stored form to stored form, or \
+         of the logarithm of time against that of nodes + ports, over the larger half of {SIZES} sizes. Up to a size all is of version 1. *Beside* is the original from stored form to stored form, or \
          plain Rust that takes and gives the same.\n"
     );
     let head = [
         "call",
         "on",
         "nodes + ports",
+        "version 1 up to",
         "port, ns at smallest",
         "port, ns at largest",
         "beside, ns at smallest",

@@ -1,11 +1,8 @@
 //! What the growth of a call is measured on.
 
 use crate::drawings::{forms_of, label_bytes, several, size, sizes};
-use differential::form::{MOST_GLOBALS, MOST_NODES};
+use differential::form::{Sizes, Version, VERSION_1};
 use differential::rows::choice::families::{ring, tree};
-
-/// How many sizes a call is measured at, each larger than the one before by the same factor.
-pub const SIZES: usize = 8;
 
 /// Inputs of some kind, from small to as large as a call can take.
 #[derive(Clone, Copy)]
@@ -13,20 +10,31 @@ pub struct Inputs {
     pub words: &'static str,
     /// Nodes of a form, or labels in a list.
     fewest: usize,
-    most: usize,
+    /// The most of them by a version's limits.
+    most: fn(Sizes) -> usize,
     /// The nodes and ports of the drawing that is read or made of so many, and what is given to the call by turns.
     pub of: fn(usize) -> (usize, Vec<Vec<u8>>),
 }
 
 impl Inputs {
-    /// The numbers of nodes or labels to measure.
-    pub fn numbers(&self) -> Vec<usize> {
-        let [fewest, most] = [self.fewest, self.most].map(|number| number as f64);
-        let factor = |step: usize| (most / fewest).powf(step as f64 / (SIZES - 1) as f64);
+    /// The most nodes or labels that a version lets through.
+    pub fn most(&self, version: Version) -> usize {
+        (self.most)(version.most)
+    }
+
+    /// So many numbers of nodes or labels, up to the most of a version, each larger than the one before by the same factor.
+    pub fn numbers(&self, version: Version, sizes: usize) -> Vec<usize> {
+        let [fewest, most] = [self.fewest, self.most(version)].map(|number| number as f64);
+        let factor = |step: usize| (most / fewest).powf(step as f64 / (sizes - 1) as f64);
         let number = |step| (fewest * factor(step)).round() as usize;
-        let mut numbers: Vec<usize> = (0..SIZES).map(number).collect();
+        let mut numbers: Vec<usize> = (0..sizes).map(number).collect();
         numbers.dedup();
         numbers
+    }
+
+    /// The nodes and ports up to which all that is read and made is of version 1.
+    pub fn end_of_version_1(&self) -> usize {
+        (self.of)(self.most(VERSION_1)).0
     }
 }
 
@@ -34,13 +42,13 @@ impl Inputs {
 pub const RANDOM: Inputs = Inputs {
     words: "random drawings",
     fewest: 3,
-    most: MOST_NODES,
+    most: |most| most.nodes,
     of: |nodes| sized(forms_of(sizes(nodes, nodes / 2))),
 };
 
 /// An operation adds four nodes.
 pub const TO_ADD_TO: Inputs = Inputs {
-    most: MOST_NODES - 4,
+    most: |most| most.nodes - 4,
     ..RANDOM
 };
 
@@ -53,13 +61,13 @@ pub const BARE: Inputs = Inputs {
 
 /// Each port gets a node of its own, and there are four to a node.
 pub const TO_SPIDERIZE: Inputs = Inputs {
-    most: MOST_NODES / 5,
+    most: |most| most.nodes / 5,
     ..BARE
 };
 
 /// The ports of every eighth node do so: by chance about half as many as there are nodes.
 pub const EIGHTH_TO_SPIDERIZE: Inputs = Inputs {
-    most: MOST_NODES * 5 / 8,
+    most: |most| most.nodes * 5 / 8,
     ..BARE
 };
 
@@ -67,7 +75,7 @@ pub const EIGHTH_TO_SPIDERIZE: Inputs = Inputs {
 pub const TREES: Inputs = Inputs {
     words: "trees",
     fewest: 6,
-    most: MOST_NODES,
+    most: |most| most.nodes,
     of: |nodes| sized(several(|rng| tree(rng, nodes))),
 };
 
@@ -81,13 +89,13 @@ pub const RINGS: Inputs = Inputs {
 pub const NODES: Inputs = Inputs {
     words: "nodes alone",
     fewest: 16,
-    most: MOST_NODES,
+    most: |most| most.nodes,
     of: |labels| (labels, vec![label_bytes(labels)]),
 };
 
 pub const GLOBAL_NODES: Inputs = Inputs {
     words: "nodes, all global",
-    most: MOST_GLOBALS,
+    most: |most| most.sources,
     ..NODES
 };
 
@@ -102,7 +110,7 @@ pub const ONE_EDGE: Inputs = Inputs {
 pub const NOTHING: Inputs = Inputs {
     words: "no input",
     fewest: 1,
-    most: 1,
+    most: |_| 1,
     of: |_| (0, vec![vec![]]),
 };
 

@@ -1,6 +1,6 @@
 //! Measures each exported function beside the original and plain Rust, on the same inputs in one process, and prints
 //! tables for docs/MEASURES.md; or, by `growth FILE.svg`, how the time of each grows with its drawing; or, by `between
-//! BEFORE.so NOW.so`, two builds of the port beside each other; or, by `calls LIBRARY.so NAME TIMES`, nothing: it only makes
+//! BEFORE.a NOW.a`, two builds of the port beside each other; or, by `calls ARCHIVE.a NAME TIMES`, nothing: it only makes
 //! the calls.
 //!
 //! A group of functions has a module, which declares them and puts each behind a safe one of the same name. A slice
@@ -16,6 +16,7 @@ mod growth;
 mod inputs;
 mod once_fed;
 mod plot;
+mod port;
 mod reading;
 mod sides;
 mod spidering;
@@ -33,11 +34,11 @@ fn main() -> ExitCode {
         [] => measure(),
         [mode, file] if mode == "growth" => growth::measure(file),
         [mode, before, now] if mode == "between" => between::measure(before, now),
-        [mode, library, name, times] if mode == "calls" => {
-            between::make_calls(library, name, times)
+        [mode, archive, name, times] if mode == "calls" => {
+            between::make_calls(archive, name, times)
         }
         _ => Err(
-            "usage: cargo run --release [-- growth FILE.svg | -- between BEFORE.so NOW.so | -- calls LIBRARY.so NAME TIMES]"
+            "usage: cargo run --release [-- growth FILE.svg | -- between BEFORE.a NOW.a | -- calls ARCHIVE.a NAME TIMES]"
                 .to_string(),
         ),
     };
@@ -52,11 +53,14 @@ fn main() -> ExitCode {
 
 fn measure() -> Result<(), String> {
     let rooms = Rooms::read()?;
+    port::open_measured()?;
     table::print_preface();
-    reading::measure();
-    building::measure();
-    deleting::measure(&rooms)?;
-    choice::measure(&rooms)?;
-    once_fed::measure(&rooms)?;
-    spidering::measure(&rooms)
+    let mut tables = reading::measure();
+    tables.extend(building::measure());
+    tables.extend(deleting::measure(&rooms)?);
+    tables.extend(choice::measure(&rooms)?);
+    tables.extend(once_fed::measure(&rooms)?);
+    tables.extend(spidering::measure(&rooms)?);
+    table::print_summary(&tables);
+    Ok(())
 }

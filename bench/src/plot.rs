@@ -7,6 +7,8 @@ pub struct Panel {
     pub title: &'static str,
     /// Under the title, on the left and, in the first line's colour, on the right.
     pub notes: [String; 2],
+    /// The nodes + ports at which a line stands upright, if they are above 0.
+    pub mark: f64,
     pub lines: [Line; 2],
 }
 
@@ -25,19 +27,20 @@ const STYLE: &str = ".title { font: bold 12px monospace; fill: #111 }
 .grid { stroke: #e4e4e4 }
 .frame { stroke: #888; fill: none }
 .linear { stroke: #888; stroke-dasharray: 3 3 }
+.mark { stroke: #3a7d34 }
 .line0, .line1 { stroke: #0b61a4; stroke-width: 1.8; fill: none }
 .line1 { stroke: #d1601c }
 .point0, .name0 { fill: #0b61a4 }
 .point1 { fill: #fff; stroke: #d1601c; stroke-width: 1.4 }";
 
-/// A picture of the panels, and then what the two lines of each are.
-pub fn svg(panels: &[Panel], names: [&str; 2]) -> String {
+/// A picture of the panels, and then what the two lines of each are and what is marked.
+pub fn svg(panels: &[Panel], names: [&str; 2], marked: &str) -> String {
     let axes = Axes::of(panels);
     let columns = COLUMNS as f64 * CELL[0];
     let rows = (panels.len() / COLUMNS + 1) as f64 * CELL[1];
     let [width, height] = [columns, rows].map(|pixels| pixels + 2.0 * MARGIN);
     let mut cells: Vec<String> = panels.iter().map(|panel| axes.panel(panel)).collect();
-    cells.push(legend(names));
+    cells.push(legend(names, marked));
     let mut svg = format!(
         "<svg xmlns=\"http://www.w3.org/2000/svg\" width=\"{width}\" height=\"{height}\" viewBox=\"0 0 {width} {height}\">\n\
          <title>Time of each call against nodes + ports</title>\n\
@@ -134,6 +137,10 @@ impl Axes {
         svg += &text("small", "start", [0.0, -7.0], &panel.notes[0]);
         svg += &text("small name0", "end", [FIELD[0], -7.0], &panel.notes[1]);
         svg += "<use href=\"#axes\"/>\n";
+        if panel.mark > 0.0 {
+            let x = self.x.at(panel.mark);
+            svg += &line("mark", [x, 0.0], [x, FIELD[1]]);
+        }
         // The first line is drawn last, above the other.
         for (i, points) in panel.lines.iter().enumerate().rev() {
             svg += &match points[..] {
@@ -151,7 +158,7 @@ impl Axes {
     }
 }
 
-fn legend(names: [&str; 2]) -> String {
+fn legend(names: [&str; 2], marked: &str) -> String {
     let sample = |y| [[0.0, y], [15.0, y], [30.0, y]];
     let mut svg = String::new();
     for (i, name) in names.iter().enumerate() {
@@ -162,11 +169,13 @@ fn legend(names: [&str; 2]) -> String {
     let [from, _, to] = sample(58.0);
     svg += &line("linear", from, to);
     svg += &text("legend", "start", [40.0, 62.0], "1 ns per node and port");
+    svg += &line("mark", [15.0, 74.0], [15.0, 90.0]);
+    svg += &text("legend", "start", [40.0, 86.0], marked);
     let slope = [
         "exponent: slope of the port's line",
         "over the larger half of its sizes",
     ];
-    for (y, words) in [90.0, 103.0].into_iter().zip(slope) {
+    for (y, words) in [114.0, 127.0].into_iter().zip(slope) {
         svg += &text("small", "start", [0.0, y], words);
     }
     svg

@@ -1,13 +1,13 @@
 //! Reading, and reading and writing.
 
-use crate::drawings::{described, forms_of, sizes};
-use crate::sides::assert_answered;
+use crate::drawings::{described, forms_of, version, MEASURED};
+use crate::sides::{assert_answered, Times};
 use crate::table::Table;
 use crate::timing::{medians, Side};
-use differential::form::{self, MOST_BYTES};
+use differential::form::{self, VERSION_2};
 
 mod exported {
-    extern "C" {
+    crate::port::functions! {
         pub fn ohg_read(src: *const u8, src_len: usize, sizes: *mut u8, sizes_len: usize) -> u64;
         pub fn ohg_rewrite(src: *const u8, src_len: usize, out: *mut u8, out_len: usize) -> u64;
     }
@@ -23,18 +23,20 @@ fn ohg_rewrite(src: &[u8], out: &mut [u8]) -> u64 {
     unsafe { exported::ohg_rewrite(src.as_ptr(), src.len(), out.as_mut_ptr(), out.len()) }
 }
 
-pub fn measure() {
-    let drawings = [sizes(10, 3), sizes(500, 100), sizes(2048, 1024)].map(forms_of);
-    let beside = ["decoding", "sizes alone"];
-    let mut table = Table::begin("`ohg_read`", &["drawing"], &beside);
+pub fn measure() -> Vec<Table> {
+    let drawings = MEASURED.map(forms_of);
+    let row = |table: &mut Table, forms: &[Vec<u8>], times: Times| {
+        table.row(version(&forms[0]), &[described(forms)], &times(forms));
+    };
+    let mut reading = Table::begin("`ohg_read`", &["drawing"], &["decoding", "sizes alone"]);
     for forms in &drawings {
-        table.row(&[described(forms)], &read(forms));
+        row(&mut reading, forms, read);
     }
-    let beside = ["decoding and encoding"];
-    let mut table = Table::begin("`ohg_rewrite`", &["drawing"], &beside);
+    let mut rewriting = Table::begin("`ohg_rewrite`", &["drawing"], &["decoding and encoding"]);
     for forms in &drawings {
-        table.row(&[described(forms)], &rewrite(forms));
+        row(&mut rewriting, forms, rewrite);
     }
+    vec![reading, rewriting]
 }
 
 /// Beside a reader that makes the drawing, and one that only looks, as the port's does.
@@ -52,7 +54,7 @@ pub fn read(forms: &[Vec<u8>]) -> Vec<f64> {
 }
 
 pub fn rewrite(forms: &[Vec<u8>]) -> Vec<f64> {
-    let mut out = vec![0; MOST_BYTES];
+    let mut out = vec![0; VERSION_2.most_bytes()];
     for form in forms {
         assert_answered(ohg_rewrite(form, &mut out), &out, form);
     }

@@ -7,14 +7,13 @@
 use crate::stored::{decode, decode_all, encode};
 use crate::timing::{medians, Side};
 use differential::convert::Graph;
-use differential::form::MOST_BYTES;
+use differential::form::VERSION_2;
+
+/// The longest list or map of a call.
+pub const MOST_LIST_BYTES: usize = VERSION_2.width * VERSION_2.most.nodes;
 
 /// A graph in memory is about so many times as large as its form.
 const IN_MEMORY: usize = 5;
-
-/// What stands beside the port, in a table's words.
-pub const ORIGINAL: [&str; 2] = ["original (decoded)", "original (stored)"];
-pub const PLAIN_CHECK: [&str; 2] = ["plain check (decoded)", "plain check (stored)"];
 
 /// The medians of the nanoseconds that a call takes on some inputs by turns, forms or lists of labels.
 pub type Times = fn(&[Vec<u8>]) -> Vec<f64>;
@@ -32,7 +31,7 @@ pub fn graph_times<T: AsRef<[u8]>, R>(
         original(&mut graph, input);
         encode(&graph)
     };
-    let mut out = vec![0; MOST_BYTES];
+    let mut out = vec![0; VERSION_2.most_bytes()];
     for input in inputs {
         assert_answered(port(input, &mut out), &out, &stored(input));
     }

@@ -1,19 +1,19 @@
 //! Spiderizing.
 
 use crate::choice::chosen;
-use crate::drawings::{several, FAMILIES};
-use crate::sides::{graph_times, ORIGINAL};
+use crate::drawings::{several, FAMILIES, MANY};
+use crate::sides::graph_times;
 use crate::stored::decode;
-use crate::table::{mean, Table};
+use crate::table::{mean, Table, ORIGINAL};
 use differential::convert::{sizes, Graph};
-use differential::form::{id_bytes, Sizes, MOST_NODES};
+use differential::form::{id_bytes, width, Sizes, Version, VERSION_1, VERSION_2};
 use differential::rooms::Rooms;
 use differential::rows::choice::families::Family;
 use differential::rows::spidering::flattened;
 use oracle::lax::NodeId;
 
 mod exported {
-    extern "C" {
+    crate::port::functions! {
         pub fn ohg_spiderize(
             src: *const u8,
             src_len: usize,
@@ -78,7 +78,7 @@ pub struct Listed {
 impl Listed {
     pub fn new(form: &[u8], nodes: Vec<NodeId>) -> Self {
         let form = form.to_vec();
-        let ids = id_bytes(nodes.iter().map(|node| node.0));
+        let ids = id_bytes(nodes.iter().map(|node| node.0), width(&form));
         Listed { form, nodes, ids }
     }
 
@@ -96,30 +96,36 @@ impl AsRef<[u8]> for Listed {
     }
 }
 
-pub fn measure(rooms: &Rooms) -> Result<(), String> {
-    let words = ["family", "nodes", "listed (mean)", "bytes answered (mean)"];
+pub fn measure(rooms: &Rooms) -> Result<Vec<Table>, String> {
+    let words = &["family", "nodes", "listed (mean)", "bytes answered (mean)"];
     let mut room = vec![0; rooms.of("ohg_spiderize_nodes")?];
-    let table = Table::begin("`ohg_spiderize_nodes`, the chosen ones", &words, &ORIGINAL);
-    measure_families(table, chosen, |inputs| spiderize_nodes(inputs, &mut room));
+    let mut some = Table::begin("`ohg_spiderize_nodes`, the chosen ones", words, &ORIGINAL);
+    measure_families(&mut some, chosen, |inputs| {
+        spiderize_nodes(inputs, &mut room)
+    });
 
     let mut room = vec![0; rooms.of("ohg_spiderize")?];
-    let table = Table::begin("`ohg_spiderize`, all nodes", &words, &ORIGINAL);
-    measure_families(table, all, |inputs| spiderize(inputs, &mut room));
-    Ok(())
+    let mut whole = Table::begin("`ohg_spiderize`, all nodes", words, &ORIGINAL);
+    measure_families(&mut whole, all, |inputs| spiderize(inputs, &mut room));
+    Ok(vec![some, whole])
 }
 
 fn all(graph: &Graph) -> Vec<NodeId> {
     (0..graph.hypergraph.nodes.len()).map(NodeId).collect()
 }
 
-/// Each family with 50 nodes and with as many as can be spiderized, and the mean over them.
+/// Each family with few nodes and with as many as can be spiderized in version 1, then with many, where so many can be,
+/// and with as many as can be in version 2; and the means over them. A row's version is that of the answers.
 fn measure_families(
-    mut table: Table,
+    table: &mut Table,
     listed: fn(&Graph) -> Vec<NodeId>,
     mut times: impl FnMut(&[Listed]) -> Vec<f64>,
 ) {
     for (name, family) in FAMILIES {
-        for nodes in [FEW, most_nodes(family, listed)] {
+        let [most_1, most_2] =
+            [VERSION_1, VERSION_2].map(|version| most_nodes(version, family, listed));
+        let many = (MANY < most_2).then_some(MANY);
+        for nodes in [FEW, most_1].into_iter().chain(many).chain([most_2]) {
             let inputs = inputs(family, nodes, listed);
             let words = [
                 name.to_string(),
@@ -127,10 +133,10 @@ fn measure_families(
                 mean(inputs.iter().map(|input| input.nodes.len())),
                 mean(inputs.iter().map(|input| input.result().form_bytes())),
             ];
-            table.row(&words, &times(&inputs));
+            table.row(inputs[0].result().version(), &words, &times(&inputs));
         }
     }
-    table.mean("all", 0..table.rows());
+    table.version_means();
 }
 
 fn inputs(family: Family, nodes: usize, listed: fn(&Graph) -> Vec<NodeId>) -> Vec<Listed> {
@@ -139,13 +145,13 @@ fn inputs(family: Family, nodes: usize, listed: fn(&Graph) -> Vec<NodeId>) -> Ve
     forms.iter().map(with_list).collect()
 }
 
-/// The most nodes of a family with which the results are within the limits. By chance some more might do.
-fn most_nodes(family: Family, listed: fn(&Graph) -> Vec<NodeId>) -> usize {
-    let [mut most, mut too_many] = [FEW, MOST_NODES + 1];
+/// The most nodes of a family with which the results are within the limits of a version. By chance some more might do.
+fn most_nodes(version: Version, family: Family, listed: fn(&Graph) -> Vec<NodeId>) -> usize {
+    let [mut most, mut too_many] = [FEW, version.most.nodes + 1];
     while most + 1 < too_many {
         let nodes = (most + too_many) / 2;
         let mut inputs = inputs(family, nodes, listed).into_iter();
-        if inputs.all(|input| input.result().within_limits()) {
+        if inputs.all(|input| input.result().within(&version.most)) {
             most = nodes;
         } else {
             too_many = nodes;

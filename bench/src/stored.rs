@@ -1,39 +1,47 @@
 //! The original's graph from the stored form and back, with nothing made in between.
 
-use differential::convert::{to_label, Graph};
-use differential::form::{self, number16, HEADER_BYTES, MARK, SPIDER, VERSION};
+use differential::convert::{self, to_label, Graph};
+use differential::form::{self, number, numbers, Version, MARK, SPIDER};
 use oracle::lax::spider::WithSpider;
 use oracle::lax::{Hyperedge, Hypergraph, NodeId};
 
 /// The graph of a form, which is a good one and is checked first.
 pub fn decode(form: &[u8]) -> Graph {
+    match form::width(form) {
+        2 => decode_by::<2>(form),
+        _ => decode_by::<4>(form),
+    }
+}
+
+fn decode_by<const WIDTH: usize>(form: &[u8]) -> Graph {
     let sizes = form::sizes(form).expect("it is a good form");
-    let (labels, rest) = form[HEADER_BYTES..].split_at(4 * sizes.nodes);
+    let count = |counts, i| number(counts, i * WIDTH, WIDTH) as usize;
+    let (labels, rest) = form[sizes.version().header_bytes()..].split_at(4 * sizes.nodes);
     let (edge_labels, mut rest) = rest.split_at(4 * sizes.edges);
     let mut adjacency = Vec::with_capacity(sizes.edges);
     for _ in 0..sizes.edges {
-        let (counts, ports) = rest.split_at(4);
-        let (sources, ports) = ports.split_at(2 * usize::from(number16(counts, 0)));
-        let (targets, after) = ports.split_at(2 * usize::from(number16(counts, 2)));
+        let (counts, ports) = rest.split_at(2 * WIDTH);
+        let (sources, ports) = ports.split_at(WIDTH * count(counts, 0));
+        let (targets, after) = ports.split_at(WIDTH * count(counts, 1));
         adjacency.push(Hyperedge {
-            sources: nodes(sources),
-            targets: nodes(targets),
+            sources: nodes::<WIDTH>(sources),
+            targets: nodes::<WIDTH>(targets),
         });
         rest = after;
     }
-    let (sources, rest) = rest.split_at(2 * sizes.sources);
-    let (targets, pairs) = rest.split_at(2 * sizes.targets);
-    let pairs = pairs.chunks_exact(4);
+    let (sources, rest) = rest.split_at(WIDTH * sizes.sources);
+    let (targets, pairs) = rest.split_at(WIDTH * sizes.targets);
+    let pairs = pairs.chunks_exact(2 * WIDTH);
     Graph {
-        sources: nodes(sources),
-        targets: nodes(targets),
+        sources: nodes::<WIDTH>(sources),
+        targets: nodes::<WIDTH>(targets),
         hypergraph: Hypergraph {
-            nodes: form::numbers(labels).collect(),
-            edges: form::numbers(edge_labels).map(to_label).collect(),
+            nodes: numbers(labels).collect(),
+            edges: numbers(edge_labels).map(to_label).collect(),
             adjacency,
             quotient: (
-                pairs.clone().map(|pair| node(pair, 0)).collect(),
-                pairs.map(|pair| node(pair, 2)).collect(),
+                pairs.clone().map(|pair| NodeId(count(pair, 0))).collect(),
+                pairs.map(|pair| NodeId(count(pair, 1))).collect(),
             ),
         },
     }
@@ -43,29 +51,36 @@ pub fn decode_all(forms: &[Vec<u8>]) -> Vec<Graph> {
     forms.iter().map(|form| decode(form)).collect()
 }
 
-fn nodes(ids: &[u8]) -> Vec<NodeId> {
-    form::ids(ids).map(|id| NodeId(id.into())).collect()
-}
-
-fn node(pair: &[u8], at: usize) -> NodeId {
-    NodeId(number16(pair, at).into())
+fn nodes<const WIDTH: usize>(ids: &[u8]) -> Vec<NodeId> {
+    let ids = form::ids::<WIDTH>(ids);
+    ids.map(|id| NodeId(id as usize)).collect()
 }
 
 /// The form of a graph, which is within the limits.
 pub fn encode(graph: &Graph) -> Vec<u8> {
+    let sizes = convert::sizes(graph);
+    let version = sizes.version();
+    let mut form = Vec::with_capacity(version.form_bytes(&sizes));
+    match version.width {
+        2 => encode_by::<2>(version, graph, &mut form),
+        _ => encode_by::<4>(version, graph, &mut form),
+    }
+    form
+}
+
+fn encode_by<const WIDTH: usize>(version: Version, graph: &Graph, form: &mut Vec<u8>) {
     let hypergraph = &graph.hypergraph;
     let (left, right) = &hypergraph.quotient;
-    let mut form = Vec::with_capacity(differential::convert::sizes(graph).form_bytes());
     form.extend_from_slice(&MARK);
+    form.extend_from_slice(&version.number.to_le_bytes());
     let counts = [
-        VERSION.into(),
         hypergraph.nodes.len(),
         hypergraph.edges.len(),
         graph.sources.len(),
         graph.targets.len(),
         left.len(),
     ];
-    put(&mut form, counts);
+    put::<WIDTH>(form, counts);
     for label in &hypergraph.nodes {
         form.extend_from_slice(&label.to_le_bytes());
     }
@@ -77,24 +92,23 @@ pub fn encode(graph: &Graph) -> Vec<u8> {
         form.extend_from_slice(&label.to_le_bytes());
     }
     for Hyperedge { sources, targets } in &hypergraph.adjacency {
-        put(&mut form, [sources.len(), targets.len()]);
-        put_nodes(&mut form, sources);
-        put_nodes(&mut form, targets);
+        put::<WIDTH>(form, [sources.len(), targets.len()]);
+        put_nodes::<WIDTH>(form, sources);
+        put_nodes::<WIDTH>(form, targets);
     }
-    put_nodes(&mut form, &graph.sources);
-    put_nodes(&mut form, &graph.targets);
+    put_nodes::<WIDTH>(form, &graph.sources);
+    put_nodes::<WIDTH>(form, &graph.targets);
     for (v, w) in left.iter().zip(right) {
-        put(&mut form, [v.0, w.0]);
+        put::<WIDTH>(form, [v.0, w.0]);
     }
-    form
 }
 
-fn put_nodes(form: &mut Vec<u8>, nodes: &[NodeId]) {
-    put(form, nodes.iter().map(|node| node.0));
+fn put_nodes<const WIDTH: usize>(form: &mut Vec<u8>, nodes: &[NodeId]) {
+    put::<WIDTH>(form, nodes.iter().map(|node| node.0));
 }
 
-fn put(form: &mut Vec<u8>, numbers: impl IntoIterator<Item = usize>) {
+fn put<const WIDTH: usize>(form: &mut Vec<u8>, numbers: impl IntoIterator<Item = usize>) {
     for number in numbers {
-        form.extend_from_slice(&(number as u16).to_le_bytes());
+        form.extend_from_slice(&(number as u32).to_le_bytes()[..WIDTH]);
     }
 }

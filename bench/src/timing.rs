@@ -1,20 +1,26 @@
 //! Times several ways of doing the same, by turns.
 
+use crate::port::{stand_at, PLACES};
+use crate::table::geometric_mean;
 use std::hint::black_box;
 use std::sync::OnceLock;
 use std::time::Duration;
 
-/// Rounds, each of one batch of calls on every side.
-pub const ROUNDS: usize = 41;
+/// Rounds at each place of the port, of one batch of calls on every side; where so many would be long, no more than these or
+/// than go into that time of the processor.
+pub const ROUNDS: usize = 7;
+pub const FEWEST_ROUNDS: usize = 3;
+pub const LONGEST: Duration = Duration::from_millis(1000);
 
 /// How long a batch takes, about.
 pub const BATCH: Duration = Duration::from_millis(2);
 
 /// Copies of inputs are made for as many calls as go into a cache, but not for more than so many; and so many calls on
-/// copies are a batch at most.
+/// copies, or on copies of so many bytes, are a batch at most.
 const CACHE_BYTES: usize = 1 << 18;
 const MOST_COPIES: usize = 64;
 const MOST_CALLS_ON_COPIES: usize = 256;
+const MOST_COPIED_BYTES: usize = 1 << 26;
 
 /// One of the ways: it makes so many calls and says how long they took.
 pub struct Side<'a> {
@@ -46,7 +52,8 @@ impl<'a> Side<'a> {
         bytes: usize,
         mut call: impl FnMut(&mut T) -> R + 'a,
     ) -> Self {
-        let at_a_time = (CACHE_BYTES / bytes.max(1)).clamp(1, MOST_COPIES);
+        let bytes = bytes.max(1);
+        let at_a_time = (CACHE_BYTES / bytes).clamp(1, MOST_COPIES);
         let mut turns = inputs.iter().cycle();
         let timed = move |calls: usize| {
             let mut left = calls;
@@ -65,7 +72,7 @@ impl<'a> Side<'a> {
         };
         Side {
             timed: Box::new(timed),
-            most: MOST_CALLS_ON_COPIES,
+            most: (MOST_COPIED_BYTES / bytes).clamp(1, MOST_CALLS_ON_COPIES),
         }
     }
 
@@ -86,19 +93,27 @@ impl<'a> Side<'a> {
     }
 }
 
-/// The median of the nanoseconds that a call takes, for each side.
+/// The nanoseconds that a call takes, for each side: the geometric mean over the places of the median at each.
 pub fn medians(mut sides: Vec<Side>) -> Vec<f64> {
     let calls: Vec<usize> = sides.iter_mut().map(Side::batch_size).collect();
-    let mut times = vec![vec![]; sides.len()];
+    let mut times = vec![vec![vec![]; PLACES]; sides.len()];
+    let start = processor_time();
     for round in 0..ROUNDS {
-        // Whatever slows one side of a round down falls to the others as often.
-        for turn in 0..sides.len() {
-            let side = (round + turn) % sides.len();
-            let taken = (sides[side].timed)(calls[side]);
-            times[side].push(taken.as_nanos() as f64 / calls[side] as f64);
+        if round >= FEWEST_ROUNDS && processor_time() - start > LONGEST {
+            break;
+        }
+        for place in 0..PLACES {
+            stand_at(place);
+            // Whatever slows one side of a round down falls to the others as often.
+            for turn in 0..sides.len() {
+                let side = (round + place + turn) % sides.len();
+                let taken = (sides[side].timed)(calls[side]);
+                times[side][place].push(taken.as_nanos() as f64 / calls[side] as f64);
+            }
         }
     }
-    times.into_iter().map(median).collect()
+    let over_places = |times: Vec<Vec<f64>>| geometric_mean(times.into_iter().map(median));
+    times.into_iter().map(over_places).collect()
 }
 
 fn median<T: PartialOrd + Copy>(mut times: Vec<T>) -> T {

@@ -1,7 +1,7 @@
 //! The building functions, each behind a safe one of the same name.
 
 mod c {
-    extern "C" {
+    crate::port::functions! {
         pub fn ohg_empty(out: *mut u8, out_len: usize) -> u64;
         pub fn ohg_discrete(
             labels: *const u8,

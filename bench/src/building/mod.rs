@@ -2,23 +2,22 @@
 
 mod exported;
 
-use crate::drawings::{described, forms_of, label_bytes, sizes};
-use crate::sides::{assert_answered, graph_times, Times, ORIGINAL};
+use crate::drawings::{described, forms_of, label_bytes, list_for, version, MANY, MEASURED};
+use crate::sides::{assert_answered, graph_times, Times};
 use crate::stored::encode;
-use crate::table::Table;
+use crate::table::{Table, ORIGINAL};
 use crate::timing::{medians, Side};
 use differential::convert::{to_label, Graph};
-use differential::form::{self, id_bytes, Sizes, MOST_BYTES, MOST_GLOBALS, MOST_NODES};
+use differential::form::{self, Sizes, Version, VERSION_1, VERSION_2};
 use exported::*;
 use oracle::lax::{EdgeId, Hyperedge, Hypergraph, NodeId};
 use std::mem::take;
 
-/// With the numbers of labels to measure.
-const MAKING: [(&str, Times, &[usize]); 4] = [
-    ("ohg_empty", empty, &[0]),
-    ("ohg_discrete", discrete, &[10, 500, MOST_NODES]),
-    ("ohg_identity", identity, &[10, 500, MOST_GLOBALS]),
-    ("ohg_singleton", singleton, &[10, 500, MOST_NODES]),
+/// With the most labels that a call takes in a version.
+const MAKING: [(&str, Times, fn(Version) -> usize); 3] = [
+    ("ohg_discrete", discrete, |version| version.most.nodes),
+    ("ohg_identity", identity, |version| version.most.sources),
+    ("ohg_singleton", singleton, |version| version.most.nodes),
 ];
 
 const ADDING: [(&str, Times); 6] = [
@@ -30,29 +29,41 @@ const ADDING: [(&str, Times); 6] = [
     ("ohg_add_edge_target", add_edge_target),
 ];
 
-/// The largest drawing to which any of the functions can add.
-const LARGEST_BUT_ONE: Sizes = Sizes {
-    nodes: 2044,
-    edges: 2047,
-    ports: 8188,
-    sources: 1024,
-    targets: 1024,
-    pairs: 1023,
-};
-
-pub fn measure() {
-    let mut table = Table::begin("Making graphs", &["call", "labels"], &ORIGINAL);
-    for (call, times, numbers) in MAKING {
-        for &labels in numbers {
-            let words = [format!("`{call}`"), labels.to_string()];
-            table.row(&words, &times(&[label_bytes(labels)]));
+pub fn measure() -> Vec<Table> {
+    let mut making = Table::begin("Making graphs", &["call", "labels"], &ORIGINAL);
+    let mut row = |version, call: &str, labels: usize, times: Times| {
+        let words = [format!("`{call}`"), labels.to_string()];
+        making.row(version, &words, &times(&[label_bytes(labels)]));
+    };
+    row(VERSION_1, "ohg_empty", 0, empty);
+    for (call, times, most) in MAKING {
+        for (version, fewer) in [(VERSION_1, &[10, 500][..]), (VERSION_2, &[MANY])] {
+            for &labels in fewer.iter().chain(&[most(version)]) {
+                row(version, call, labels, times);
+            }
         }
     }
-    let mut table = Table::begin("Adding to a graph", &["call", "drawing"], &ORIGINAL);
-    for forms in [sizes(10, 3), sizes(500, 100), LARGEST_BUT_ONE].map(forms_of) {
+    let mut adding = Table::begin("Adding to a graph", &["call", "drawing"], &ORIGINAL);
+    for forms in MEASURED.map(addable).map(forms_of) {
         for (call, times) in ADDING {
-            table.row(&[format!("`{call}`"), described(&forms)], &times(&forms));
+            let words = [format!("`{call}`"), described(&forms)];
+            adding.row(version(&forms[0]), &words, &times(&forms));
         }
+    }
+    vec![making, adding]
+}
+
+/// The largest drawing of a version to which any of the functions can add, in place of the largest.
+fn addable(sizes: Sizes) -> Sizes {
+    if sizes != sizes.version().most {
+        return sizes;
+    }
+    Sizes {
+        nodes: sizes.nodes - 4,
+        edges: sizes.edges - 1,
+        ports: sizes.ports - 4,
+        pairs: sizes.pairs - 1,
+        ..sizes
     }
 }
 
@@ -95,7 +106,7 @@ fn made(
 ) -> Vec<f64> {
     let decoded = |labels: &Vec<u8>| form::numbers(labels).collect::<Vec<u32>>();
     let stored = |labels: &Vec<u8>| encode(&original(decoded(labels)));
-    let mut out = vec![0; MOST_BYTES];
+    let mut out = vec![0; VERSION_2.most_bytes()];
     for labels in lists {
         assert_answered(port(labels, &mut out), &out, &stored(labels));
     }
@@ -118,7 +129,7 @@ pub fn new_node(forms: &[Vec<u8>]) -> Vec<f64> {
 /// Two sources and two targets.
 pub fn new_edge(forms: &[Vec<u8>]) -> Vec<f64> {
     let [sources, targets] = [[0, 1], [1, 2]];
-    let ids = [id_bytes(sources), id_bytes(targets)];
+    let ids = [sources, targets].map(|ids| list_for(forms, ids));
     graph_times(
         forms,
         |src, out| ohg_new_edge(src, 9, &ids[0], &ids[1], out),
