@@ -113,7 +113,7 @@ pub fn counts_fit(f: Format, z: Sizes) -> bool
     z.pairs <= f.pairs
 }
 
-// Whether no count and no port sum is.
+// Whether no count and no port sum is above its limit in a version.
 pub fn sizes_fit(f: Format, z: Sizes) -> bool
     ensures { λ r. ⌜ r ≡ sizesFit (meant f) (countsOf z) (z .ports) ⌝ }
 {

@@ -251,13 +251,9 @@ first-fits b t v = look (readIn form1 b) refl
         let h = in-sound form1 b g t v e .formed in
         version-passes g (fitting-first (counts g) (ports g) (formed-limits form1 g h))
 
-pub read-in-version : (b : List ℕ) (v : ℕ) (f : Format) → readVersion b ≡ answered v → formatNumbered v ≡ answered f → read b ≡ (readFitting f b >>= as-stored f)
+read-in-version : (b : List ℕ) (v : ℕ) (f : Format) → readVersion b ≡ answered v → formatNumbered v ≡ answered f → read b ≡ (readFitting f b >>= as-stored f)
 unfolding read _>>=_
 read-in-version b v f p e = rw (p, e)
-
-pub read-neither : (b : List ℕ) (v : ℕ) → readVersion b ≡ answered v → formatNumbered v ≡ refused (refusal 3) → read b ≡ refused (refusal 3)
-unfolding read _>>=_
-read-neither b v p e = rw (p, e)
 
 -- what one that knows version 1 alone reads, all read
 pub first-alone : (b : List ℕ) (g : Graph) → Below 256 b → readAs form1 b ≡ answered g → read b ≡ answered (record { format = form1; graph = g })

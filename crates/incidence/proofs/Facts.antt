@@ -19,7 +19,7 @@ use Rattle.form.specs.Stored.{Stored, graphOf}
 use Rattle.form.specs.declared.Sizes.{Sizes}
 use Rattle.form.specs.declared.EdgeAt.{EdgeAt}
 use Rattle.form.proofs.Stored.{stored-rows, edge-there}
-use Rattle.tables.specs.Tables.{mostNodes, mostVertices, mostPorts, listsAt, pickedAt}
+use Rattle.tables.specs.Tables.{mostNodes, mostVertices, mostPorts, pickedAt}
 use Rattle.removal.specs.Room.{source, startOf, countOf, formList, AllLow}
 use Rattle.halves.specs.Halves.{times, sumTo}
 use Rattle.halves.proofs.Sums.{sum-apart}

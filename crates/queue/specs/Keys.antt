@@ -11,7 +11,7 @@ use Rattle.choice.specs.Arcs.{Arc, In, bump}
 
 -- ---- keys
 
--- above every id and every degree
+-- above every id, and above every degree once what may go freely has gone
 abbrev pub radix : ℕ
 radix = 65536
 

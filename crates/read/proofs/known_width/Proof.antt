@@ -1,6 +1,6 @@
 -- `read::known_width` meets its contract.
 -- Assumes nothing.
-use mathlib.Core.Path.{_≡_, sym, ap}
+use mathlib.Core.Path.{sym, ap}
 use Prim.Native.Nat.{ℕ}
 use Rattle.form.specs.declared.Format.{Format}
 use Rattle.le.proofs.Rows.{four}

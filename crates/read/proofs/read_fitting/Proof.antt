@@ -9,7 +9,7 @@ use Rattle.le.proofs.Numbers.{below-each}
 use Rattle.graph.specs.Answer.{answered}
 use Rattle.graph.specs.Graph as graph
 use Rattle.graph.specs.Graph.{Graph, form1, counts, ports}
-use Rattle.graph.specs.Read.{readVersion, readIn}
+use Rattle.graph.specs.Read.{readIn}
 use Rattle.graph.specs.Versions.{formatNumbered, fittingSizes, fitting, readFitting}
 use Rattle.graph.proofs.Steps.{same-answer, stops, goes}
 use Rattle.graph.proofs.Versions.{Version, version1, version-known, fitting-version, same-width, version-passes, version-13, first-fits}
