@@ -303,7 +303,7 @@ pub fn cycle_breaking_nodes(src: &[u8], list: &mut [u8], room: &mut [u8]) -> Out
     };
     let c = flag_nodes(room, src, z);
     if list.len() < c.ids * z.width {
-        return Outcome::Refused(Refusal { no: 10 });
+        return Outcome::Refused(Refusal { no: 10, place: 0 });
     }
     put_chosen(
         list,

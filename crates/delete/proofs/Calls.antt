@@ -12,7 +12,7 @@ use Rattle.le.specs.Le.{row}
 use Rattle.le.specs.Rows.{placeIn, puts}
 use Rattle.le.proofs.Numbers.{length-row}
 use Rattle.graph.specs.Answer as answer
-use Rattle.graph.specs.Answer.{Answer, refused, answered, Result, writing, lay, _else_, _>>=_, _>>_}
+use Rattle.graph.specs.Answer.{Answer, refused, answered, Result, writing, lay, _else_, _>>=_, _>>_, refusal}
 use Rattle.graph.specs.Calls.{idList, fit, made, deleteEdgesStep, nodesDeleted, roomDeleteEdges, roomDeleteNodes}
 use Rattle.graph.specs.Delete.{remaining, deleteEdges, withoutNodes, deleteNodes, whereTo, nodeMap}
 use Rattle.graph.specs.Build.{withEdges}
@@ -84,11 +84,11 @@ module _ {A B C D : Type 0} (m : Answer A) (next : A → Answer B) (f : B → C)
       let q = came (next (p .0)) (λ b. answered (f b)) (p .2) in
       (q .0, same-answer (q .2), goes (λ a. next a >>= then) (p .1) ∙ goes then (q .1))
 
-fit-stop : (room : ℕ) (bytes : List ℕ) (r : answer.Refusal) → (leb (length bytes) room else 10) ≡ refused r → fit room bytes ≡ refused r
+fit-stop : (room : ℕ) (bytes : List ℕ) (r : answer.Refusal) → (leb (length bytes) room else refusal 10) ≡ refused r → fit room bytes ≡ refused r
 unfolding fit _>>_
 fit-stop room bytes r e = rw e
 
-fit-go : (room : ℕ) (bytes : List ℕ) (x : Unit {0}) → (leb (length bytes) room else 10) ≡ answered x → fit room bytes ≡ answered bytes
+fit-go : (room : ℕ) (bytes : List ℕ) (x : Unit {0}) → (leb (length bytes) room else refusal 10) ≡ answered x → fit room bytes ≡ answered bytes
 unfolding fit _>>_
 fit-go room bytes x e = rw e
 
@@ -134,7 +134,7 @@ module _ (b ids : List ℕ) (room mapRoom : ℕ) where
       abbrev form : List ℕ
       form = encode (fitting graph) graph
 
-      module _ (makes : made room (record { graph = graph; id = 0 }) ≡ answered (writing form 0)) (r : Step) (fits : r ≡ tested (leb (z .nodes * z .width) mapRoom else 10)) where
+      module _ (makes : made room (record { graph = graph; id = 0 }) ≡ answered (writing form 0)) (r : Step) (fits : r ≡ tested (leb (z .nodes * z .width) mapRoom else refusal 10)) where
         formed : nodesDeleted b ids room mapRoom ≡ onward form
         unfolding made
         formed =
@@ -143,13 +143,13 @@ module _ (b ids : List ℕ) (room mapRoom : ℕ) where
 
         pub nodes-no-map : (q : Refusal) → r ≡ step.Refused q → nodesDeleted b ids room mapRoom ≡ refused (meantBy q)
         nodes-no-map q e =
-            formed ∙ stops _ (fit-stop mapRoom mapped (meantBy q) (ap (λ (n : ℕ). leb n mapRoom else 10) map-long ∙ test-refused _ r fits q e))
+            formed ∙ stops _ (fit-stop mapRoom mapped (meantBy q) (ap (λ (n : ℕ). leb n mapRoom else refusal 10) map-long ∙ test-refused _ r fits q e))
 
         pub nodes-done : (n : ℕ) → r ≡ step.Number n → nodesDeleted b ids room mapRoom
             ≡ answered (record { a = length form; b = length (graphOf b .labels); bytes = form; map = mapped })
         nodes-done n e =
             let t = test-answered _ r fits n e in
-            formed ∙ goes _ (fit-go mapRoom mapped (t .0) (ap (λ (n : ℕ). leb n mapRoom else 10) map-long ∙ t .1))
+            formed ∙ goes _ (fit-go mapRoom mapped (t .0) (ap (λ (n : ℕ). leb n mapRoom else refusal 10) map-long ∙ t .1))
 
       -- the map that was put is the answered one
       pub map-put : (room old : List ℕ) → marked room (z .nodes) ≡ among list → z .nodes * z .width ≤ length old

@@ -7,7 +7,7 @@ use native.Mathlib.Omega.{arith}
 use lib.Dec.{leb}
 use lib.ListN.{length}
 use borrow.Author.Tests.{leb-true}
-use Rattle.graph.specs.Answer.{Answer, refused, answered, Result, lay, laid, laidMap, _else_, _>>_}
+use Rattle.graph.specs.Answer.{Answer, refused, answered, Result, lay, laid, laidMap, _else_, _>>_, refusal}
 use Rattle.graph.specs.Calls.{inWorkRoom}
 use Rattle.graph.proofs.Steps.{passed}
 use Rattle.graph.specs.Answer as answer
@@ -73,18 +73,18 @@ passed-read e p = e ∙ ap reading.Refused (sym (p ∙ ap refusalRead e))
 
 -- ---- work room
 
-module _ {A : Type 0} (needed lent : ℕ) (a : Answer A) (r : Step) (is : r ≡ tested (leb needed lent else 10)) where
+module _ {A : Type 0} (needed lent : ℕ) (a : Answer A) (r : Step) (is : r ≡ tested (leb needed lent else refusal 10)) where
   pub work-short : (q : Refusal) → r ≡ step.Refused q → inWorkRoom needed lent a ≡ refused (meantBy q)
   unfolding inWorkRoom _>>_
-  work-short q e = rw (test-refused (leb needed lent else 10) r is q e)
+  work-short q e = rw (test-refused (leb needed lent else refusal 10) r is q e)
 
   pub work-enough : (n : ℕ) → r ≡ step.Number n → inWorkRoom needed lent a ≡ a
   unfolding inWorkRoom _>>_
-  work-enough n e = rw (test-answered (leb needed lent else 10) r is n e .1)
+  work-enough n e = rw (test-answered (leb needed lent else refusal 10) r is n e .1)
 
-pub room-enough : (needed lent : ℕ) (r : Step) → r ≡ tested (leb needed lent else 10) → (n : ℕ) → r ≡ step.Number n → needed ≤ lent
+pub room-enough : (needed lent : ℕ) (r : Step) → r ≡ tested (leb needed lent else refusal 10) → (n : ℕ) → r ≡ step.Number n → needed ≤ lent
 unfolding inWorkRoom
-room-enough needed lent r is n e = leb-true needed lent (passed (leb needed lent) 10 (answered n) (work-enough needed lent (answered n) r is n e) .0)
+room-enough needed lent r is n e = leb-true needed lent (passed (leb needed lent) _ (answered n) (work-enough needed lent (answered n) r is n e) .0)
 
 -- ---- a call: its outcome and its buffers
 

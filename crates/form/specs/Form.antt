@@ -26,10 +26,10 @@ use Rattle.form.specs.declared.Outcome.the-variants as call
 -- ---- answers
 
 abbrev pub refusalOf : answer.Refusal → Refusal
-refusalOf r = record { no = r .no }
+refusalOf r = record { no = r .no; place = r .place }
 
 abbrev pub meantBy : Refusal → answer.Refusal
-meantBy x = record { no = x .no }
+meantBy x = record { no = x .no; place = x .place }
 
 -- a step that answers a number
 abbrev pub numbered : Answer ℕ → Step
@@ -64,11 +64,11 @@ pub record GivesMap (a : Answer Result) (r : Outcome) (old new oldMap newMap : L
 
 -- the refusal in an answer, of number 0 where there is none
 abbrev pub refusalIn : Step → Refusal
-refusalIn (step.Number n) = record { no = 0 }
+refusalIn (step.Number n) = record { no = 0; place = 0 }
 refusalIn (step.Refused x) = x
 
 abbrev pub refusalRead : Reading → Refusal
-refusalRead (read.Sized z) = record { no = 0 }
+refusalRead (read.Sized z) = record { no = 0; place = 0 }
 refusalRead (read.Refused x) = x
 
 -- ---- versions and sizes

@@ -10,9 +10,10 @@ ghost use Rattle.le.specs.Rows.{Holds};
 ghost use Rattle.form.specs.Form.{meant, countsOf, bodyOf, labelsOf, edgeIn, Low, refusalIn, refusalRead};
 use le::Row;
 
-// Why a call was refused: the number that document 01 gives it.
+// Why a call was refused: the number that document 01 gives it; and where, a byte in 1 to 6 and an entry's index in 7, else 0.
 pub struct Refusal {
     pub no: u32,
+    pub place: usize,
 }
 
 // What a step answers: a number, or the refusal to pass on.
@@ -27,7 +28,7 @@ impl Step {
         ensures { λ r. ⌜ r ≡ refusalIn self ⌝ }
     {
         match self {
-            Step::Number(_) => Refusal { no: 0 },
+            Step::Number(_) => Refusal { no: 0, place: 0 },
             Step::Refused(x) => x,
         }
     }
@@ -146,7 +147,7 @@ impl Reading {
         ensures { λ r. ⌜ r ≡ refusalRead self ⌝ }
     {
         match self {
-            Reading::Sized(_) => Refusal { no: 0 },
+            Reading::Sized(_) => Refusal { no: 0, place: 0 },
             Reading::Refused(x) => x,
         }
     }

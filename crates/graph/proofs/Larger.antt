@@ -3,19 +3,19 @@
 use mathlib.Core.Path.{_≡_, refl}
 use mathlib.Core.List.{[], _∷_, map}
 use lib.ListN.{replicate}
-use Rattle.graph.specs.Answer.{refused, answered, refusal, writing, _else_, _>>=_, _>>_}
+use Rattle.graph.specs.Answer.{refused, answered, _carrying_, writing, _else_, _>>=_, _>>_}
 use Rattle.graph.specs.Build.{newNode}
 use Rattle.graph.specs.Calls.{idList, fit, made, onGraph, newNodeStep, newNodeCall, nodesDeleted}
 use Rattle.graph.specs.Delete.{deleteNodes, nodeMap}
-use Rattle.graph.specs.Form.{encode}
+use Rattle.graph.specs.Form.{encode, idPlaces}
 use Rattle.graph.specs.Graph.{form2}
 use Rattle.graph.specs.Larger.{broken, wide, wideForm, full1, full1And9}
 use Rattle.graph.specs.Read.{readVersion, readCounts, readEdge, readLists, readBody, readIn}
 use Rattle.graph.specs.Versions.{formatNumbered, fittingSizes, inVersion, readFitting, read, store}
 
--- each broken form is refused with its number
-pub broken-refused : map (λ x. read (x .form)) broken ≡ map (λ x. refused (refusal (x .no))) broken
-unfolding _else_ _>>=_ _>>_ readVersion readCounts readEdge readLists readBody readIn formatNumbered fittingSizes inVersion readFitting read
+-- each broken form is refused so
+pub broken-refused : map (λ x. read (x .form)) broken ≡ map (λ x. refused (x .why)) broken
+unfolding _else_ _>>=_ _>>_ readVersion readCounts readEdge readLists readBody readIn formatNumbered fittingSizes inVersion readFitting read idPlaces
 broken-refused = refl
 
 -- the drawing that outgrows version 1, both ways
@@ -33,7 +33,7 @@ pub wide-deleted : nodesDeleted wideForm (0 ∷ 0 ∷ 0 ∷ 0 ∷ []) 15 4
 unfolding _else_ _>>=_ _>>_ readVersion readCounts readEdge readLists readBody readIn formatNumbered fittingSizes inVersion readFitting read encode store idList fit deleteNodes nodeMap nodesDeleted
 wide-deleted = refl
 
-pub wide-short-id : nodesDeleted wideForm (0 ∷ 0 ∷ []) 15 4 ≡ refused (refusal 7)
+pub wide-short-id : nodesDeleted wideForm (0 ∷ 0 ∷ []) 15 4 ≡ refused (7 carrying 0)
 unfolding _else_ _>>=_ _>>_ readVersion readCounts readEdge readLists readBody readIn formatNumbered fittingSizes inVersion readFitting read encode store idList fit deleteNodes nodeMap nodesDeleted
 wide-short-id = refl
 

@@ -2,19 +2,21 @@
 -- Assumes nothing.
 use mathlib.Core.Bool.{Bool, true, false, false≢true, not, cond, _&&_}
 use mathlib.Core.List.{List, [], _∷_, _++_, map}
-use mathlib.Core.Path.{_≡_, refl, sym, ap, subst}
+use mathlib.Core.Path.{_≡_, sym, ap, _∙_, subst}
 use Prim.Native.Nat.{ℕ, suc, _+_, _≤_}
 use native.Mathlib.Omega.{arith}
 use lib.ListN.{length, length-map, length-append}
 use Rattle.le.specs.Le.{Below}
-use Rattle.graph.specs.Answer.{Answer, refused, answered, refusal, Refusal, _else_, _>>=_, _>>_}
+use Rattle.graph.specs.Answer.{Answer, answered}
 use Rattle.graph.specs.Calls.{Next, idList, fit, made, onGraph, inWorkRoom, deleteEdgesStep, deleteEdgesCall, nodesDeleted, deleteNodesCall}
 use Rattle.graph.specs.Delete.{remaining, newId, renamed, renamedEdge, deleteEdges, deleteNodes}
 use Rattle.graph.specs.Graph.{Edge, Graph, edgeEntries, largest, WellFormed}
-use Rattle.graph.specs.Lists.{joined, keep, among}
+use Rattle.graph.specs.Lists.{joined, keep, member, among}
 use Rattle.graph.specs.Versions.{StoredGraph, read, store}
 use Rattle.graph.proofs.Kept.{delete-edges-proper, delete-nodes-proper}
-use Rattle.graph.proofs.Steps.{same-refusal, never, same-answer, came}
+use Rattle.graph.proofs.Reading.{readRefusals}
+use Rattle.graph.proofs.Refuses.{Refuses, answer-by, test-by, step-when}
+use Rattle.graph.proofs.Steps.{same-answer, came}
 use Rattle.graph.proofs.Versions.{read-sound, read-by, store-formed}
 
 -- ---- what is left is no more
@@ -89,64 +91,50 @@ delete-nodes-formed list g h =
 
 -- ---- the calls
 
--- an answer that is not 9
-record NotNine {A : Type 0} (a : Answer A) : Type 0 where
-  other : a ≡ refused (refusal 9) → ⊥
-
-answers : {A : Type 0} (x : A) → NotNine (answered x)
-answers x = record { other = λ e. never (sym e) }
-
-number-of : {A : Type 0} {m n : ℕ} → _≡_ {A = Answer A} (refused (refusal m)) (refused (refusal n)) → m ≡ n
-number-of e = ap (λ (r : Refusal). r .no) (same-refusal e)
-
-after-test : {A : Type 0} (c : Bool) (n : ℕ) (next : Answer A) → (n ≡ 9 → ⊥) → NotNine next → NotNine ((c else n) >> next)
-unfolding _else_ _>>_
-after-test true n next h k = k
-after-test false n next h k = record { other = λ e. h (number-of e) }
-
-after-step : {A B : Type 0} (m : Answer A) (next : A → Answer B) → NotNine m → ((x : A) → m ≡ answered x → NotNine (next x)) → NotNine (m >>= next)
-unfolding _>>=_
-after-step (refused r) next h k = record { other = λ e. h .other (ap refused (same-refusal e)) }
-after-step (answered x) next h k = k x refl
+-- no refusal is 9
+abbrev pub NotNine : {A : Type 0} → Answer A → Type 0
+NotNine a = Refuses (λ r. r .no ≡ 9 → ⊥) a
 
 reads : (b : List ℕ) → NotNine (read b)
-reads b = record { other = λ e. let h : false ≡ true = read-by b .number (refusal 9) e in absurd (false≢true h) }
+reads b = record {
+  each = λ r e n.
+      let h : false ≡ true = ap (λ k. member k readRefusals) (sym n) ∙ read-by b .each r e in
+      false≢true h;
+}
 
 lists : (s : StoredGraph) (count : ℕ) (b : List ℕ) → NotNine (idList (s .format) count b)
 unfolding idList
-lists s count b = after-test _ 7 _ (λ e. omega arith) (after-test _ 7 _ (λ e. omega arith) (answers _))
+lists s count b = test-by _ _ _ (λ e. omega arith) (test-by _ _ _ (λ e. omega arith) (answer-by _))
 
 fits : (room : ℕ) (bytes : List ℕ) → NotNine (fit room bytes)
 unfolding fit
-fits room bytes = after-test _ 10 _ (λ e. omega arith) (answers _)
+fits room bytes = test-by _ _ _ (λ e. omega arith) (answer-by _)
 
 forms : (g : Graph) → WellFormed largest g → NotNine (store g)
-forms g h = rw (store-formed g h) (answers _)
+forms g h = rw (store-formed g h) (answer-by _)
 
 makes : (room : ℕ) (x : Next) → WellFormed largest (x .graph) → NotNine (made room x)
 unfolding made
-makes room x h = after-step _ _ (forms (x .graph) h) (λ form p. after-step _ _ (fits room form) (λ form q. answers _))
+makes room x h = step-when _ _ (forms (x .graph) h) (λ form p. step-when _ _ (fits room form) (λ form q. answer-by _))
 
 -- whatever they are given, neither call gives 9
 module _ (b list : List ℕ) (t : Below 256 b) (room workRoom : ℕ) where
   within : (s : StoredGraph) → read b ≡ answered s → WellFormed largest (s .graph)
   within s p = let h = read-sound b s t p in h .version .grows (s .graph) (h .formed)
 
-  pub delete-edges-no-9 : deleteEdgesCall b list room workRoom ≡ refused (refusal 9) → ⊥
+  pub delete-edges-no-9 : NotNine (deleteEdgesCall b list room workRoom)
   unfolding inWorkRoom onGraph deleteEdgesStep
   delete-edges-no-9 =
-      after-test _ 10 _ (λ e. omega arith)
-      (after-step _ _ (reads b) (λ s p. after-step _ _ (after-step _ _ (lists s (length (s .graph .edges)) list) (λ gone q. answers _))
+      test-by _ _ _ (λ e. omega arith)
+      (step-when _ _ (reads b) (λ s p. step-when _ _ (step-when _ _ (lists s (length (s .graph .edges)) list) (λ gone q. answer-by _))
       (λ x q.
       let gone = came (idList (s .format) (length (s .graph .edges)) list) _ q in
       makes room x (subst (λ (k : Next). WellFormed largest (k .graph)) (same-answer (gone .2)) (delete-edges-formed (gone .0) (s .graph) (within s p))))))
-      .other
 
-  pub delete-nodes-no-9 : (mapRoom : ℕ) → deleteNodesCall b list room mapRoom workRoom ≡ refused (refusal 9) → ⊥
+  pub delete-nodes-no-9 : (mapRoom : ℕ) → NotNine (deleteNodesCall b list room mapRoom workRoom)
   unfolding inWorkRoom nodesDeleted
   delete-nodes-no-9 mapRoom =
-      after-test _ 10 _ (λ e. omega arith)
-      (after-step _ _ (reads b) (λ s p. after-step _ _ (lists s (length (s .graph .labels)) list)
-      (λ gone q. after-step _ _ (forms (deleteNodes gone (s .graph)) (delete-nodes-formed gone (s .graph) (within s p)))
-      (λ form r. after-step _ _ (fits room form) (λ form k. after-step _ _ (fits mapRoom _) (λ map u. answers _))))))
-      .other
+      test-by _ _ _ (λ e. omega arith)
+      (step-when _ _ (reads b) (λ s p. step-when _ _ (lists s (length (s .graph .labels)) list)
+      (λ gone q. step-when _ _ (forms (deleteNodes gone (s .graph)) (delete-nodes-formed gone (s .graph) (within s p)))
+      (λ form r. step-when _ _ (fits room form) (λ form k. step-when _ _ (fits mapRoom _) (λ map u. answer-by _))))))

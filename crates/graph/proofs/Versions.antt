@@ -10,14 +10,15 @@ use native.Mathlib.Omega.{arith}
 use lib.Dec.{eqb, leb}
 use lib.ListN.{length}
 use borrow.Author.Tests.{leb-true, eqb-true, eq-eqb, ne-eqb, le-leb}
-use Rattle.graph.specs.Answer.{Answer, refused, answered, refusal, _else_, _>>=_, _>>_}
+use Rattle.graph.specs.Answer.{_carrying_, Answer, refused, answered, refusal, _else_, _>>=_, _>>_}
 use Rattle.graph.specs.Form.{encode, formBytes}
 use Rattle.graph.specs.Graph.{Graph, Counts, counts, ports, Format, form1, form2, largest, countsFit, sizesFit, withinLimits, Proper, Within, WellFormed, Usable}
 use Rattle.graph.specs.Read.{readVersion, readIn, readAs}
 use Rattle.graph.specs.Versions.{StoredGraph, formatNumbered, fittingSizes, fitting, inVersion, readFitting, read, store}
 use Rattle.le.specs.Le.{Below}
 use Rattle.graph.proofs.Laws.{form1-usable, form2-usable, length-encode}
-use Rattle.graph.proofs.Reading.{RefusedBy, readRefusals, answer-by, refusal-by, test-by, step-by, version-by, in-by}
+use Rattle.graph.proofs.Reading.{readRefusals, version-by, in-by}
+use Rattle.graph.proofs.Refuses.{RefusedBy, answer-by, refusal-by, test-by, step-by}
 use Rattle.graph.proofs.ReadWrite.{fits-within, in-sound}
 use Rattle.graph.proofs.Steps.{same-answer, passed, came, never}
 use Rattle.graph.proofs.WriteRead.{within-true, in-encode, version-encode}
@@ -57,11 +58,11 @@ pub version-known : (v : ℕ) (f : Format) → formatNumbered v ≡ answered f �
 unfolding formatNumbered
 version-known v f p = first (eqb v 1) refl p
   where
-    second : (c : Bool) → eqb v 2 ≡ c → cond c (answered form2) (refused (refusal 3)) ≡ answered f → Version f × (f .version ≡ v)
+    second : (c : Bool) → eqb v 2 ≡ c → cond c (answered form2) (refused (3 carrying 3)) ≡ answered f → Version f × (f .version ≡ v)
     second true e q = subst (λ (k : Format). Version k × (k .version ≡ v)) (same-answer q) (version2, sym (eqb-true v 2 e))
     second false e q = absurd (never q)
 
-    first : (c : Bool) → eqb v 1 ≡ c → cond c (answered form1) (cond (eqb v 2) (answered form2) (refused (refusal 3))) ≡ answered f → Version f × (f .version ≡ v)
+    first : (c : Bool) → eqb v 1 ≡ c → cond c (answered form1) (cond (eqb v 2) (answered form2) (refused (3 carrying 3))) ≡ answered f → Version f × (f .version ≡ v)
     first true e q = subst (λ (k : Format). Version k × (k .version ≡ v)) (same-answer q) (version1, sym (eqb-true v 1 e))
     first false e q = second (eqb v 2) refl q
 
@@ -114,7 +115,7 @@ fitting-version g = sizes-version (counts g) (ports g)
 version-passed : {f : Format} {h : Graph} (g : Graph) → Version f → inVersion f g ≡ answered h → (fitting g ≡ f) × (g ≡ h)
 unfolding inVersion
 version-passed {f} g v p =
-    let q = passed (eqb (fitting g .version) (f .version)) 13 (answered g) p in
+    let q = passed (eqb (fitting g .version) (f .version)) _ (answered g) p in
     (same-version (fitting-version g) v (eqb-true _ _ (q .0)), same-answer (q .1))
 
 -- and one that is in it passes
@@ -187,7 +188,7 @@ store-formed g h = rw (formed-limits largest g h)
 pub store-sound : (g : Graph) (b : List ℕ) → Proper g → store g ≡ answered b → WellFormed largest g × (encode (fitting g) g ≡ b)
 unfolding store
 store-sound g b h p =
-    let q = passed (withinLimits largest g) 9 (answered (encode (fitting g) g)) p in
+    let q = passed (withinLimits largest g) _ (answered (encode (fitting g) g)) p in
     (limits-formed largest g h (q .0), same-answer (q .1))
 
 -- the longest form, and the longest of version 1
@@ -260,7 +261,7 @@ pub first-alone : (b : List ℕ) (g : Graph) → Below 256 b → readAs form1 b 
 unfolding readAs _>>=_
 first-alone b g t p =
     let p₁ = came (readVersion b) _ p in
-    let p₂ = passed (eqb (p₁ .0) (form1 .version)) 3 (readIn form1 b) (p₁ .2) in
+    let p₂ = passed (eqb (p₁ .0) (form1 .version)) _ (readIn form1 b) (p₁ .2) in
     let v : readVersion b ≡ answered 1 = p₁ .1 ∙ ap answered (eqb-true (p₁ .0) 1 (p₂ .0)) in
     read-in-version b 1 form1 v (version1 .found) ∙ ap (λ (m : Answer Graph). m >>= as-stored form1) (first-fits b t v ∙ p₂ .1)
 
@@ -270,17 +271,17 @@ format-by : (v : ℕ) → RefusedBy readRefusals (formatNumbered v)
 unfolding formatNumbered
 format-by v = first (eqb v 1)
   where
-    second : (c : Bool) → RefusedBy readRefusals (cond c (answered form2) (refused (refusal 3)))
+    second : (c : Bool) → RefusedBy readRefusals (cond c (answered form2) (refused (3 carrying 3)))
     second true = answer-by form2
-    second false = refusal-by 3 refl
+    second false = refusal-by (3 carrying 3) refl
 
-    first : (c : Bool) → RefusedBy readRefusals (cond c (answered form1) (cond (eqb v 2) (answered form2) (refused (refusal 3))))
+    first : (c : Bool) → RefusedBy readRefusals (cond c (answered form1) (cond (eqb v 2) (answered form2) (refused (3 carrying 3))))
     first true = answer-by form1
     first false = second (eqb v 2)
 
 fitting-by : (f : Format) (b : List ℕ) → RefusedBy readRefusals (readFitting f b)
 unfolding readFitting inVersion
-fitting-by f b = step-by (readIn f b) _ (in-by f b) (λ g. test-by _ 13 _ refl (answer-by g))
+fitting-by f b = step-by (readIn f b) _ (in-by f b) (λ g. test-by _ _ _ refl (answer-by g))
 
 pub read-by : (b : List ℕ) → RefusedBy readRefusals (read b)
 unfolding read

@@ -3,6 +3,7 @@
 use Prim.Native.Nat.{ℕ}
 use mathlib.Core.List.{List, [], _∷_, _++_}
 use lib.ListN.{replicate}
+use Rattle.graph.specs.Answer.{Refusal, _carrying_}
 use Rattle.graph.specs.Graph.{Graph}
 use Rattle.graph.specs.Build.{empty, withInterface, withNodes}
 
@@ -11,31 +12,31 @@ abbrev pub head2 : ℕ → ℕ → ℕ → ℕ → ℕ → List ℕ
 head2 n e s t p =
     79 ∷ 72 ∷ 71 ∷ 2 ∷ 0 ∷ n ∷ 0 ∷ 0 ∷ 0 ∷ e ∷ 0 ∷ 0 ∷ 0 ∷ s ∷ 0 ∷ 0 ∷ 0 ∷ t ∷ 0 ∷ 0 ∷ 0 ∷ p ∷ 0 ∷ 0 ∷ 0 ∷ []
 
--- a form, and the number that refuses it
+-- a form, and how it is refused
 pub record Broken : Type 0 where
   pub form : List ℕ
-  pub no : ℕ
+  pub why : Refusal
 
 infix 10 _by_
-abbrev pub _by_ : List ℕ → ℕ → Broken
-form by n = record { form = form; no = n }
+abbrev pub _by_ : List ℕ → Refusal → Broken
+form by r = record { form = form; why = r }
 
 -- 14 bytes; another mark; versions 0, 3 and 256; a header of version 2 of 24 bytes; 16,385 nodes; one node and no label; 65,537 ports at the only edge;
 -- an id that is the node count; the empty graph, and one node, in version 2
 abbrev pub broken : List Broken
 broken =
-    (79 ∷ 72 ∷ 71 ∷ 2 ∷ 0 ∷ replicate 9 0 by 1)
-    ∷ (79 ∷ 72 ∷ 72 ∷ 2 ∷ 0 ∷ replicate 20 0 by 2)
-    ∷ (79 ∷ 72 ∷ 71 ∷ 0 ∷ 0 ∷ replicate 20 0 by 3)
-    ∷ (79 ∷ 72 ∷ 71 ∷ 3 ∷ 0 ∷ replicate 20 0 by 3)
-    ∷ (79 ∷ 72 ∷ 71 ∷ 0 ∷ 1 ∷ replicate 20 0 by 3)
-    ∷ (79 ∷ 72 ∷ 71 ∷ 2 ∷ 0 ∷ replicate 19 255 by 5)
-    ∷ (79 ∷ 72 ∷ 71 ∷ 2 ∷ 0 ∷ 1 ∷ 64 ∷ replicate 18 0 by 4)
-    ∷ (head2 1 0 0 0 0 by 5)
-    ∷ (head2 0 1 0 0 0 ++ (7 ∷ 0 ∷ 0 ∷ 0 ∷ 0 ∷ 0 ∷ 1 ∷ 0 ∷ 1 ∷ 0 ∷ 0 ∷ 0 ∷ []) by 4)
-    ∷ (head2 1 0 1 0 0 ++ (7 ∷ 0 ∷ 0 ∷ 0 ∷ 1 ∷ 0 ∷ 0 ∷ 0 ∷ []) by 6)
-    ∷ (head2 0 0 0 0 0 by 13)
-    ∷ (head2 1 0 0 0 0 ++ (7 ∷ 0 ∷ 0 ∷ 0 ∷ []) by 13)
+    (79 ∷ 72 ∷ 71 ∷ 2 ∷ 0 ∷ replicate 9 0 by 1 carrying 14)
+    ∷ (79 ∷ 72 ∷ 72 ∷ 2 ∷ 0 ∷ replicate 20 0 by 2 carrying 0)
+    ∷ (79 ∷ 72 ∷ 71 ∷ 0 ∷ 0 ∷ replicate 20 0 by 3 carrying 3)
+    ∷ (79 ∷ 72 ∷ 71 ∷ 3 ∷ 0 ∷ replicate 20 0 by 3 carrying 3)
+    ∷ (79 ∷ 72 ∷ 71 ∷ 0 ∷ 1 ∷ replicate 20 0 by 3 carrying 3)
+    ∷ (79 ∷ 72 ∷ 71 ∷ 2 ∷ 0 ∷ replicate 19 255 by 5 carrying 24)
+    ∷ (79 ∷ 72 ∷ 71 ∷ 2 ∷ 0 ∷ 1 ∷ 64 ∷ replicate 18 0 by 4 carrying 5)
+    ∷ (head2 1 0 0 0 0 by 5 carrying 25)
+    ∷ (head2 0 1 0 0 0 ++ (7 ∷ 0 ∷ 0 ∷ 0 ∷ 0 ∷ 0 ∷ 1 ∷ 0 ∷ 1 ∷ 0 ∷ 0 ∷ 0 ∷ []) by 4 carrying 33)
+    ∷ (head2 1 0 1 0 0 ++ (7 ∷ 0 ∷ 0 ∷ 0 ∷ 1 ∷ 0 ∷ 0 ∷ 0 ∷ []) by 6 carrying 29)
+    ∷ (head2 0 0 0 0 0 by 13 carrying 0)
+    ∷ (head2 1 0 0 0 0 ++ (7 ∷ 0 ∷ 0 ∷ 0 ∷ []) by 13 carrying 0)
     ∷ []
 
 -- one node, 1,025 times a global source: the smallest drawing that outgrows version 1

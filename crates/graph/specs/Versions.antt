@@ -6,7 +6,7 @@ use mathlib.Core.Bool.{cond}
 use lib.Dec.{eqb}
 use Rattle.graph.specs.Graph.{Graph, Counts, counts, ports, Format, form1, form2, largest, sizesFit, withinLimits}
 use Rattle.graph.specs.Form.{encode}
-use Rattle.graph.specs.Answer.{Answer, refused, answered, refusal, _else_, _>>=_, _>>_}
+use Rattle.graph.specs.Answer.{Answer, refused, answered, refusal, _carrying_, _else_, _>>=_, _>>_}
 use Rattle.graph.specs.Read.{readVersion, readIn}
 
 -- a graph that was read, and the version in which it was stored
@@ -14,9 +14,9 @@ pub record StoredGraph : Type 0 where
   pub format : Format
   pub graph : Graph
 
--- the version of this number; 3 it is neither
+-- the version of this number; 3 it is neither, at the number
 unfoldable pub formatNumbered : ℕ → Answer Format
-formatNumbered version = cond (eqb version 1) (answered form1) (cond (eqb version 2) (answered form2) (refused (refusal 3)))
+formatNumbered version = cond (eqb version 1) (answered form1) (cond (eqb version 2) (answered form2) (refused (3 carrying 3)))
 
 -- the version in which a graph of these counts and ports is stored: the first where it fits, else the second
 unfoldable pub fittingSizes : Counts → ℕ → Format
@@ -28,7 +28,7 @@ fitting g = fittingSizes (counts g) (ports g)
 -- 13: a graph is stored in another version than the one that it fits
 unfoldable pub inVersion : Format → Graph → Answer Graph
 inVersion f g = do
-  eqb (fitting g .version) (f .version) else 13
+  eqb (fitting g .version) (f .version) else refusal 13
   answered g
 
 -- what bytes of this version are read as
@@ -48,5 +48,5 @@ read b = do
 -- a graph's stored form; 9 it would pass a limit
 unfoldable pub store : Graph → Answer (List ℕ)
 store g = do
-  withinLimits largest g else 9
+  withinLimits largest g else refusal 9
   answered (encode (fitting g) g)

@@ -25,11 +25,11 @@ use Rattle.write.proofs.Calls.{next}
 
 -- a result with more ports than there may be
 pub graph-over : (b : List ℕ) (step : Format → Graph → Answer Next) (old : List ℕ) {z : Sizes} → Stored b z → (x : Next) → step (formatOf b) (graphOf b) ≡ answered x
-    → largest .mostPorts < ports (x .graph) → Gives (onGraph b (length old) step) (call.Refused (record { no = 9 })) old old
+    → largest .mostPorts < ports (x .graph) → Gives (onGraph b (length old) step) (call.Refused (record { no = 9; place = 0 })) old old
 graph-over b step old s x is h =
     let over : withinLimits largest (x .graph) ≡ false =
     rw (lt-leb (ports (x .graph)) (largest .mostPorts) h) (and-false (countsFit largest (counts (x .graph)))) in
-    gives-refused (record { no = 9 }) old (call-made b (length old) step (storedOf b) (s .read-as) x is ∙ made-9 (length old) x over)
+    gives-refused (record { no = 9; place = 0 }) old (call-made b (length old) step (storedOf b) (s .read-as) x is ∙ made-9 (length old) x over)
 
 -- ---- what the steps answer
 

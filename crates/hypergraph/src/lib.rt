@@ -228,7 +228,7 @@ pub fn new_edge(src: &[u8], label: u32, sources: &[u8], targets: &[u8], out: &mu
     let new = s + t;
     // so that no sum below wraps
     if graph::MAX_PORTS < new {
-        return Outcome::Refused(Refusal { no: 9 });
+        return Outcome::Refused(Refusal { no: 9, place: 0 });
     }
     let y = write::sized(
         z.nodes,

@@ -2,17 +2,17 @@
 mod reader;
 
 ghost use mathlib.Core.Path.{_≡_};
-ghost use Prim.Native.Nat.{ℕ, _+_, _*_, _<_, _≤_, _^_, max};
+ghost use Prim.Native.Nat.{ℕ, _+_, _*_, _<_, _≤_, _^_, max, min};
 ghost use mathlib.Core.List.{List};
 ghost use lib.Dec.{leb};
 ghost use lib.ListN.{length, take, drop};
 ghost use Rattle.le.specs.Le.{Wide, numbers, numberAt};
 ghost use Rattle.le.specs.Rows.{rowAt, Holds, span};
-ghost use Rattle.graph.specs.Lists.{same};
+ghost use Rattle.graph.specs.Lists.{same, firstBad};
 ghost use Rattle.graph.specs.Graph as graph;
 ghost use Rattle.graph.specs.Graph.{Edge, Graph, edgeEntries, Within, Usable};
-ghost use Rattle.graph.specs.Form.{mark, headerBytes};
-ghost use Rattle.graph.specs.Answer.{answered, _else_};
+ghost use Rattle.graph.specs.Form.{mark, headerBytes, edgesPlace};
+ghost use Rattle.graph.specs.Answer.{answered, refusal, _else_};
 ghost use Rattle.graph.specs.Read.{readVersion, readCounts, readEdge, readEdges, readLists, readBody, readIn, readAs};
 ghost use Rattle.graph.specs.Versions as versions;
 ghost use Rattle.graph.specs.Versions.{formatNumbered, readFitting};
@@ -20,7 +20,8 @@ ghost use Rattle.graph.specs.Calls as calls;
 ghost use Rattle.graph.specs.Calls.{idList, labelList};
 ghost use Rattle.form.specs.Form.{meant, countsOf, numbered, counted, tested, reading};
 ghost use Rattle.read.specs.Reach.{reach, highest};
-ghost use Rattle.read.specs.Steps.{versioned, headerRead, measured, edgeStep, edgesStep};
+ghost use Rattle.read.specs.Steps.{versioned, countAbove, headerRead, measured, edgeStep, edgesStep, countOver, settled, CountsThere};
+ghost use Rattle.read.specs.Walk.{Spans, StandAt, badPlace};
 use form::Format;
 use form::Reading;
 use form::Refusal;
@@ -50,10 +51,13 @@ fn read_version(s: &[u8]) -> Step
     ensures { λ r. ⌜ r ≡ numbered (readVersion (now (s .entry))) ⌝ }
 {
     if s.len() < 15 {
-        return Step::Refused(Refusal { no: 1 });
+        return Step::Refused(Refusal {
+            no: 1,
+            place: s.len(),
+        });
     }
     if !marked(s) {
-        return Step::Refused(Refusal { no: 2 });
+        return Step::Refused(Refusal { no: 2, place: 0 });
     }
     Step::Number(le::get2(s, 3) as usize)
 }
@@ -74,20 +78,47 @@ fn format_numbered(version: usize) -> Versioned
     if version == 2 {
         return Versioned::Is(form::form2());
     }
-    Versioned::Refused(Refusal { no: 3 })
+    Versioned::Refused(Refusal { no: 3, place: 3 })
 }
 
-// The rest of a header: 5 it is cut short, 4 a count is above its limit, or its counts.
+// Which count of a header is the first above its limit, where one is: 0 the nodes, 1 the edges, 2 the global sources, 3 the global targets, 4 the pairs.
+fn count_above(f: Format, z: Sizes) -> usize
+    ensures { λ r. ⌜ r ≡ countAbove (meant f) (countsOf z) ⌝ }
+{
+    if f.nodes < z.nodes {
+        return 0;
+    }
+    if f.edges < z.edges {
+        return 1;
+    }
+    if f.sources < z.sources {
+        return 2;
+    }
+    if f.targets < z.targets {
+        return 3;
+    }
+    4
+}
+
+// The rest of a header: 5 it is cut short, 4 a count is above its limit, or its counts. Which count is above is asked only where one is.
 fn read_counts(s: &[u8], f: Format) -> Reading
     requires { ⌜ Wide (f .width) ⌝ }
     ensures { λ r. ⌜ r ≡ headerRead (f .width) (readCounts (meant f) (now (s .entry))) ⌝ }
 {
-    if s.len() < 5 + 5 * f.width {
-        return Reading::Refused(Refusal { no: 5 });
+    let width = f.width;
+    if s.len() < 5 + 5 * width {
+        return Reading::Refused(Refusal {
+            no: 5,
+            place: s.len(),
+        });
     }
-    let z = counts_at(s, f.width);
+    let z = counts_at(s, width);
     if !form::counts_fit(f, z) {
-        return Reading::Refused(Refusal { no: 4 });
+        let k = count_above(f, z);
+        return Reading::Refused(Refusal {
+            no: 4,
+            place: 5 + k * width,
+        });
     }
     Reading::Sized(z)
 }
@@ -113,6 +144,13 @@ fn higher(a: u32, b: u32) -> u32
     ensures { λ r. ⌜ r ≡ max a b ⌝ }
 {
     if a < b { b } else { a }
+}
+
+// The lower of two places.
+fn lower(a: usize, b: usize) -> usize
+    ensures { λ r. ⌜ r ≡ min a b ⌝ }
+{
+    if a < b { a } else { b }
 }
 
 // The highest of the n ids from `at` on, 0 where there is none. Each is looked at once and nothing is decided here.
@@ -143,6 +181,19 @@ fn reach_of(s: &[u8], at: usize, n: usize, width: usize, bound: usize) -> usize
     above(bound, most as usize)
 }
 
+// The index of the first of the n ids from `at` on that is not below the bound; n where there is none.
+fn first_bad(s: &[u8], at: usize, n: usize, width: usize, bound: usize) -> usize
+    requires { ⌜ Holds (now s) (rowAt at width) n ⌝ }
+    ensures { λ r. ⌜ r ≡ firstBad bound (numbers width n (drop at (now (s .entry)))) ⌝ }
+{
+    for k in 0..n {
+        if bound <= count_at(s, at + k * width, width) {
+            return k;
+        }
+    }
+    n
+}
+
 // How many entries the edge at a place has: its source count and its target count, in the smaller width read as one number.
 fn ports_at(s: &[u8], at: usize, width: usize) -> usize
     requires { ⌜ Holds (now s) (rowAt at width) 2 ⌝ }
@@ -156,37 +207,48 @@ fn ports_at(s: &[u8], at: usize, width: usize) -> usize
     }
 }
 
-// Where reading stands after an edge or several: the port sum, the next place, and how far the ids reach.
+// Where reading stands after an edge or several: the port sum, the next place, and how far the ids reach. Or the edge there passes the limit of ports with this sum.
 pub enum Edges {
     Next {
         ports: usize,
         at: usize,
         bound: usize,
     },
+    Over {
+        at: usize,
+        ports: usize,
+    },
     Refused(Refusal),
 }
 
 // One edge, after edges of this port sum whose ids reach so far. 5 its two counts are not wholly there, 4 the port sum passes its limit,
-// 5 its ids are not all there.
+// 5 its ids are not all there. Which of the two counts passes the limit is not asked here: asked in the loop over the edges it would slow down every edge.
 fn read_edge(s: &[u8], f: Format, at: usize, sum: usize, bound: usize) -> Edges
     requires { ⌜ (at ≤ length (now s)) × (sum ≤ f .ports) × Usable (meant f) ⌝ }
-    ensures { λ r. ⌜ ((label : ℕ) → r ≡ edgeStep (length (now (s .entry))) sum bound (readEdge (meant f) sum label (drop at (now (s .entry))))) ⌝ }
+    ensures { λ r. ⌜ CountsThere (f .width) (now (s .entry)) r
+        × ((label : ℕ) → settled (meant f) (now (s .entry)) r ≡ edgeStep (length (now (s .entry))) sum bound (readEdge (meant f) (length (now (s .entry))) sum label (drop at (now (s .entry))))) ⌝ }
 {
     let width = f.width;
     let limit = f.ports;
     let left = s.len() - at;
     if left < 2 * width {
-        return Edges::Refused(Refusal { no: 5 });
+        return Edges::Refused(Refusal {
+            no: 5,
+            place: s.len(),
+        });
     }
     let n = ports_at(s, at, width);
     let ports = sum + n;
     let rest = left - 2 * width;
     let bytes = n * width;
     if limit < ports {
-        return Edges::Refused(Refusal { no: 4 });
+        return Edges::Over { at, ports };
     }
     if rest < bytes {
-        return Edges::Refused(Refusal { no: 5 });
+        return Edges::Refused(Refusal {
+            no: 5,
+            place: s.len(),
+        });
     }
     let ids = ids_at(s, at + 2 * width, n, width, bound);
     Edges::Next {
@@ -196,10 +258,22 @@ fn read_edge(s: &[u8], f: Format, at: usize, sum: usize, bound: usize) -> Edges
     }
 }
 
+// The place of the count with which the edge at a place passes the limit of ports: this is the sum with both of its counts.
+fn count_over(s: &[u8], at: usize, ports: usize, width: usize, limit: usize) -> usize
+    requires { ⌜ Holds (now s) (rowAt at width) 2 × (limit < 2 ^ 32) ⌝ }
+    ensures { λ r. ⌜ r ≡ countOver width limit (now (s .entry)) at ports ⌝ }
+{
+    if limit + count_at(s, at + width, width) < ports {
+        return at;
+    }
+    at + width
+}
+
 // As many edges as the header says, one after the other.
 fn read_edges(s: &[u8], f: Format, start: usize, edges: usize) -> Edges
     requires { ⌜ (start ≤ length (now s)) × Usable (meant f) ⌝ }
-    ensures { λ r. ⌜ ((labels : List ℕ) → length labels ≡ edges → r ≡ edgesStep (length (now (s .entry))) (readEdges (meant f) 0 labels (drop start (now (s .entry))))) ⌝ }
+    ensures { λ r. ⌜ CountsThere (f .width) (now (s .entry)) r
+        × ((labels : List ℕ) → length labels ≡ edges → settled (meant f) (now (s .entry)) r ≡ edgesStep (length (now (s .entry))) (readEdges (meant f) (length (now (s .entry))) 0 labels (drop start (now (s .entry))))) ⌝ }
 {
     let mut at = start;
     let mut ports: usize = 0;
@@ -221,21 +295,64 @@ fn read_edges(s: &[u8], f: Format, start: usize, edges: usize) -> Edges
     Edges::Next { ports, at, bound }
 }
 
-// After the last edge: 5 another length than the counts call for, 6 an id not below the node count.
-fn read_lists(s: &[u8], f: Format, z: Sizes, ports: usize, at: usize, bound: usize) -> Reading
-    requires { ⌜ (at ≤ length (now s)) × Within (meant f) (countsOf z) × Usable (meant f) ⌝ }
-    ensures { λ r. ⌜ ((body : List ℕ) (edges : List Edge) → length edges ≡ z .edges → length (edgeEntries edges) ≡ ports → reach (edgeEntries edges) ≡ bound
-        → r ≡ measured (f .width) (readLists (meant f) (countsOf z) body edges (drop at (now (s .entry))))) ⌝ }
+// The place of the first id not below the bound, where there is one: among those of so many edges from `start` on, else among so many ids from `lists` on.
+fn bad_place(
+    s: &[u8],
+    start: usize,
+    edges: usize,
+    lists: usize,
+    ids: usize,
+    width: usize,
+    bound: usize,
+) -> usize
+    requires { ⌜ Holds (now s) (rowAt lists width) ids × Spans width (now s) start edges lists ⌝ }
+    ensures { λ r. ⌜ r ≡ badPlace width bound (now (s .entry)) start edges ids ⌝ }
 {
-    let ids = z.sources + (z.targets + 2 * z.pairs);
-    if s.len() - at != ids * f.width {
-        return Reading::Refused(Refusal { no: 5 });
+    let mut at = start;
+    for i in 0..edges {
+        let n = ports_at(s, at, width);
+        let first = at + 2 * width;
+        let k = first_bad(s, first, n, width, bound);
+        if k < n {
+            return first + k * width;
+        }
+        at = first + n * width;
     }
-    if z.nodes < reach_of(s, at, ids, f.width, bound) {
-        return Reading::Refused(Refusal { no: 6 });
+    lists + first_bad(s, lists, ids, width, bound) * width
+}
+
+// After the last edge: 5 another length than the counts call for, 6 an id not below the node count. Which id is bad is asked only where one is.
+fn read_lists(
+    s: &[u8],
+    f: Format,
+    z: Sizes,
+    start: usize,
+    ports: usize,
+    at: usize,
+    bound: usize,
+) -> Reading
+    requires { ⌜ (at ≤ length (now s)) × Within (meant f) (countsOf z) × Usable (meant f) × Spans (f .width) (now s) start (z .edges) at ⌝ }
+    ensures { λ r. ⌜ ((body : List ℕ) (edges : List Edge) → length edges ≡ z .edges → length (edgeEntries edges) ≡ ports → reach (edgeEntries edges) ≡ bound
+        → start ≡ edgesPlace (meant f) (countsOf z) → StandAt (f .width) (now (s .entry)) start edges at
+        → r ≡ measured (f .width) (readLists (meant f) (length (now (s .entry))) (countsOf z) body edges (drop at (now (s .entry))))) ⌝ }
+{
+    let width = f.width;
+    let ids = z.sources + (z.targets + 2 * z.pairs);
+    let bytes = ids * width;
+    if s.len() - at != bytes {
+        return Reading::Refused(Refusal {
+            no: 5,
+            place: lower(s.len(), at + bytes),
+        });
+    }
+    if z.nodes < reach_of(s, at, ids, width, bound) {
+        return Reading::Refused(Refusal {
+            no: 6,
+            place: bad_place(s, start, z.edges, at, ids, width, z.nodes),
+        });
     }
     Reading::Sized(Sizes {
-        width: f.width,
+        width,
         nodes: z.nodes,
         edges: z.edges,
         ports,
@@ -248,15 +365,23 @@ fn read_lists(s: &[u8], f: Format, z: Sizes, ports: usize, at: usize, bound: usi
 // After the header: 5 labels that don't all fit, then the edges, then the lists.
 fn read_body(s: &[u8], f: Format, z: Sizes) -> Reading
     requires { ⌜ (headerBytes (meant f) ≤ length (now s)) × Within (meant f) (countsOf z) × Usable (meant f) ⌝ }
-    ensures { λ r. ⌜ r ≡ measured (f .width) (readBody (meant f) (countsOf z) (drop (headerBytes (meant f)) (now (s .entry)))) ⌝ }
+    ensures { λ r. ⌜ r ≡ measured (f .width) (readBody (meant f) (length (now (s .entry))) (countsOf z) (drop (headerBytes (meant f)) (now (s .entry)))) ⌝ }
 {
     let header = 5 + 5 * f.width;
     let labels = z.nodes + z.edges;
     if s.len() - header < labels * 4 {
-        return Reading::Refused(Refusal { no: 5 });
+        return Reading::Refused(Refusal {
+            no: 5,
+            place: s.len(),
+        });
     }
-    match read_edges(s, f, labels_end(s, header, labels), z.edges) {
-        Edges::Next { ports, at, bound } => read_lists(s, f, z, ports, at, bound),
+    let start = labels_end(s, header, labels);
+    match read_edges(s, f, start, z.edges) {
+        Edges::Next { ports, at, bound } => read_lists(s, f, z, start, ports, at, bound),
+        Edges::Over { at, ports } => Reading::Refused(Refusal {
+            no: 4,
+            place: count_over(s, at, ports, f.width, f.ports),
+        }),
         Edges::Refused(x) => Reading::Refused(x),
     }
 }
@@ -312,7 +437,7 @@ pub fn read_as(src: &[u8], f: Format) -> Reading
         return Reading::Refused(version.refusal());
     };
     if v != f.version {
-        return Reading::Refused(Refusal { no: 3 });
+        return Reading::Refused(Refusal { no: 3, place: 3 });
     }
     read_in(src, f)
 }
@@ -330,7 +455,7 @@ fn read_fitting(src: &[u8], f: Format) -> Reading
         return graph;
     }
     if form::fitting_width(z) != z.width {
-        return Reading::Refused(Refusal { no: 13 });
+        return Reading::Refused(Refusal { no: 13, place: 0 });
     }
     graph
 }
@@ -354,12 +479,15 @@ pub fn id_list(ids: &[u8], width: usize, count: usize) -> Step
     requires { ⌜ Wide width ⌝ }
     ensures { λ r. ⌜ ((f : graph.Format) → f .width ≡ width → r ≡ counted (idList f count (now (ids .entry)))) ⌝ }
 {
-    if ids.len() % width != 0 {
-        return Step::Refused(Refusal { no: 7 });
-    }
     let n = ids.len() / width;
+    if ids.len() % width != 0 {
+        return Step::Refused(Refusal { no: 7, place: n });
+    }
     if count < reach_of(ids, 0, n, width, 0) {
-        return Step::Refused(Refusal { no: 7 });
+        return Step::Refused(Refusal {
+            no: 7,
+            place: first_bad(ids, 0, n, width, count),
+        });
     }
     Step::Number(n)
 }
@@ -368,10 +496,11 @@ pub fn id_list(ids: &[u8], width: usize, count: usize) -> Step
 pub fn label_list(labels: &[u8]) -> Step
     ensures { λ r. ⌜ r ≡ counted (labelList (now (labels .entry))) ⌝ }
 {
+    let n = labels.len() / 4;
     if labels.len() % 4 != 0 {
-        return Step::Refused(Refusal { no: 7 });
+        return Step::Refused(Refusal { no: 7, place: n });
     }
-    Step::Number(labels.len() / 4)
+    Step::Number(n)
 }
 
 // A single id: 7 it is not below the count, or the id.
@@ -379,7 +508,7 @@ pub fn known(id: u32, count: usize) -> Step
     ensures { λ r. ⌜ r ≡ numbered (calls.known count id) ⌝ }
 {
     if count <= id as usize {
-        return Step::Refused(Refusal { no: 7 });
+        return Step::Refused(Refusal { no: 7, place: 0 });
     }
     Step::Number(id as usize)
 }
@@ -389,17 +518,17 @@ pub fn unpaired(z: Sizes) -> Step
     ensures { λ r. ⌜ ((g : Graph) → length (g .pairs) ≡ z .pairs → r ≡ tested (calls.unpaired g)) ⌝ }
 {
     if z.pairs != 0 {
-        return Step::Refused(Refusal { no: 8 });
+        return Step::Refused(Refusal { no: 8, place: 0 });
     }
     Step::Number(0)
 }
 
 // The work room lent: 10 it is shorter than the call needs.
 pub fn work_room(lent: usize, needed: usize) -> Step
-    ensures { λ r. ⌜ r ≡ tested (leb needed lent else 10) ⌝ }
+    ensures { λ r. ⌜ r ≡ tested (leb needed lent else refusal 10) ⌝ }
 {
     if lent < needed {
-        return Step::Refused(Refusal { no: 10 });
+        return Step::Refused(Refusal { no: 10, place: 0 });
     }
     Step::Number(0)
 }

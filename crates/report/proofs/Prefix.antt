@@ -1,4 +1,4 @@
--- More bytes than the longest form has make no difference to the report: of bytes p that are more and any bytes q after them, the refusal is that of p.
+-- More bytes than the longest form has make no difference to the report: of bytes p that are more and any bytes q after them, the refusal has the number of that of p.
 -- The header lies in p, and so do all labels and edges that the limits allow; whatever is left then is longer than the longest lists.
 -- Assumes nothing.
 use mathlib.Core.Bool.{Bool, true, false}
@@ -11,48 +11,44 @@ use lib.Dec.{leb}
 use lib.ListN.{length, take, drop, length-append, length-drop, take-append-drop}
 use lib.Seq.{take-all, length-take-le, take-append-le, drop-append-le}
 use borrow.Author.Tests.{le-leb, leb-true, leb-false}
-use Rattle.graph.specs.Answer.{Refusal, Answer, refused, answered, refusal, _else_, _>>=_, _>>_}
+use Rattle.graph.specs.Answer.{Refusal, Answer, refused, answered, _else_, _>>=_, _>>_}
 use Rattle.graph.specs.Calls.{unpaired}
 use Rattle.graph.specs.Form.{headerBytes, formBytes}
-use Rattle.graph.specs.Graph.{Edge, Graph, Counts, Format, form1, Within, countsFit}
+use Rattle.graph.specs.Graph.{Edge, Graph, Counts, Format, form1, Within}
 use Rattle.graph.specs.Read.{readVersion, readCounts, readEdge, readEdges, readBody, readIn, readAs, countsAt}
 use Rattle.le.specs.Le.{number, numbers, numberAt}
 use Rattle.graph.proofs.Reading.{Edges}
-use Rattle.graph.proofs.ReadWrite.{fits-within}
 use Rattle.graph.proofs.Verdicts.{lists-5}
 use Rattle.le.proofs.Numbers.{length-numbers}
-use Rattle.report.specs.Report.{told, reportText}
+use Rattle.report.specs.Report.{refusedLine, told, reportText}
 
 -- ---- two answers alike: both refused with one number, or both answered, the second what the first calls for
 
 data Alike {A : Type 0} (P : A → Type 0) (second : A → A) : Answer A → Answer A → Type 0 where
-  stopped : (r : Refusal) → Alike P second (refused r) (refused r)
+  stopped : (r s : Refusal) → s .no ≡ r .no → Alike P second (refused r) (refused s)
   went : (a b : A) → b ≡ second a → P a → Alike P second (answered a) (answered b)
 
 -- the second is the first
 abbrev Same : {A : Type 0} → (A → Type 0) → Answer A → Answer A → Type 0
 Same P = Alike P (λ a. a)
 
-same-answers : {A : Type 0} {P : A → Type 0} {x y : Answer A} → Same P x y → y ≡ x
-same-answers (stopped r) = refl
-same-answers (went a b e p) = ap answered e
-
 module _ {B : Type 0} {Q : B → Type 0} {next : B → B} where
   -- after answers alike
   alike-then : {A : Type 0} {P : A → Type 0} {second : A → A} {x y : Answer A} (k l : A → Answer B) → Alike P second x y
       → ((a : A) → P a → Alike Q next (k a) (l (second a))) → Alike Q next (x >>= k) (y >>= l)
   unfolding _>>=_
-  alike-then k l (stopped r) f = stopped r
+  alike-then k l (stopped r s e) f = stopped r s e
   alike-then k l (went a b e p) f = subst (λ c. Alike Q next (k a) (l c)) (sym e) (f a p)
 
   -- after one test
-  alike-test : {x y : Answer B} (c d : Bool) (n : ℕ) → d ≡ c → (c ≡ true → Alike Q next x y) → Alike Q next ((c else n) >> x) ((d else n) >> y)
+  alike-test : {x y : Answer B} (c d : Bool) (r s : Refusal) → s .no ≡ r .no → d ≡ c → (c ≡ true → Alike Q next x y)
+      → Alike Q next ((c else r) >> x) ((d else s) >> y)
   unfolding _else_ _>>_
-  alike-test {x} {y} c d n e f = go c e f
+  alike-test {x} {y} c d r s n e f = go c e f
     where
-      go : (t : Bool) → d ≡ t → (t ≡ true → Alike Q next x y) → Alike Q next ((t else n) >> x) ((d else n) >> y)
+      go : (t : Bool) → d ≡ t → (t ≡ true → Alike Q next x y) → Alike Q next ((t else r) >> x) ((d else s) >> y)
       go true e f = rw e (f refl)
-      go false e f = rw e (stopped (refusal n))
+      go false e f = rw e (stopped r s n)
 
 -- ---- what lies in the front
 
@@ -94,10 +90,10 @@ module _ (f : Format) where
   abbrev AfterEdge : ℕ → List ℕ → Edge × List ℕ → Type 0
   AfterEdge sum p x = (sum + ports-of (x .0) ≤ f .mostPorts) × (length p ≡ (2 + ports-of (x .0)) * f .width + length (x .1))
 
-  edge-more : (sum label : ℕ) (p q : List ℕ) → (2 + f .mostPorts) * f .width ≤ length p + sum * f .width → sum ≤ f .mostPorts
-      → Alike (AfterEdge sum p) (onto q) (readEdge f sum label p) (readEdge f sum label (p ++ q))
+  edge-more : (long longer sum label : ℕ) (p q : List ℕ) → (2 + f .mostPorts) * f .width ≤ length p + sum * f .width → sum ≤ f .mostPorts
+      → Alike (AfterEdge sum p) (onto q) (readEdge f long sum label p) (readEdge f longer sum label (p ++ q))
   unfolding readEdge
-  edge-more sum label p q enough within =
+  edge-more long longer sum label p q enough within =
       let w = f .width in
       let s = numberAt w p 0 in
       let t = numberAt w p w in
@@ -105,13 +101,14 @@ module _ (f : Format) where
       let room : sum * w ≤ f .mostPorts * w = mul-le-mul-right w within in
       let counted : 2 * w ≤ length p = omega arith in
       rw (number-front p q w 0 (omega arith), number-front p q w w (omega arith), drop-append-le (2 * w) p q counted)
-      (alike-test _ _ 5 (long-front p q (2 * w) (omega arith)) (λ _.
-      alike-test _ _ 4 refl (λ few.
+      (alike-test _ _ _ _ refl (long-front p q (2 * w) (omega arith)) (λ _.
+      alike-test _ _ _ _ refl refl (λ _.
+      alike-test _ _ _ _ refl refl (λ few.
       let all : (sum + (s + t)) * w ≤ f .mostPorts * w = mul-le-mul-right w (leb-true _ _ few) in
       let there : (s + t) * w ≤ length entries = omega (arith, length-drop (2 * w) p) in
       let ports : length (numbers w s entries) + length (numbers w t (drop (s * w) entries)) ≡ s + t =
       λ i. length-numbers w s entries i + length-numbers w t (drop (s * w) entries) i in
-      alike-test _ _ 5 (long-front entries q ((s + t) * w) (omega arith)) (λ _.
+      alike-test _ _ _ _ refl (long-front entries q ((s + t) * w) (omega arith)) (λ _.
       went _ _ (λ i. (
         record {
           label = label;
@@ -121,27 +118,27 @@ module _ (f : Format) where
         },
         drop-append-le ((s + t) * w) entries q there i,
       ))
-      (rw ports (leb-true _ _ few), rw ports (omega (arith, length-drop ((s + t) * w) entries, length-drop (2 * w) p)))))))
+      (rw ports (leb-true _ _ few), rw ports (omega (arith, length-drop ((s + t) * w) entries, length-drop (2 * w) p))))))))
 
   -- after the edges, what is left is longer than the longest lists
   abbrev AfterEdges : Edges → Type 0
   AfterEdges x = lists < length (x .1)
 
-  edges-more : (labels : List ℕ) (sum : ℕ) (p q : List ℕ) → (2 * length labels + f .mostPorts) * f .width + lists < length p + sum * f .width
-      → sum ≤ f .mostPorts → Alike AfterEdges (onto q) (readEdges f sum labels p) (readEdges f sum labels (p ++ q))
-  edges-more [] sum p q enough within =
+  edges-more : (long longer : ℕ) (labels : List ℕ) (sum : ℕ) (p q : List ℕ) → (2 * length labels + f .mostPorts) * f .width + lists < length p + sum * f .width
+      → sum ≤ f .mostPorts → Alike AfterEdges (onto q) (readEdges f long sum labels p) (readEdges f longer sum labels (p ++ q))
+  edges-more long longer [] sum p q enough within =
       went ([], p) _ refl (omega (arith, mul-le-mul-right (f .width) within))
-  edges-more (label ∷ labels) sum p q enough within =
-      alike-then _ _ (edge-more sum label p q (omega arith) within) (λ x h.
-      alike-then _ _ (edges-more labels (sum + ports-of (x .0)) (x .1) q (omega (arith, h .1)) (h .0)) (λ y l.
+  edges-more long longer (label ∷ labels) sum p q enough within =
+      alike-then _ _ (edge-more long longer sum label p q (omega arith) within) (λ x h.
+      alike-then _ _ (edges-more long longer labels (sum + ports-of (x .0)) (x .1) q (omega (arith, h .1)) (h .0)) (λ y l.
       went (x .0 ∷ y .0, y .1) _ refl l))
 
   -- ---- the body and the header
 
-  body-more : (c : Counts) (p q : List ℕ) → Within f c → formBytes f (f .most) (f .mostPorts) < headerBytes f + length p
-      → Same (λ g. Unit {0}) (readBody f c p) (readBody f c (p ++ q))
+  body-more : (long longer : ℕ) (c : Counts) (p q : List ℕ) → Within f c → formBytes f (f .most) (f .mostPorts) < headerBytes f + length p
+      → Same (λ g. Unit {0}) (readBody f long c p) (readBody f longer c (p ++ q))
   unfolding readBody
-  body-more c p q h l =
+  body-more long longer c p q h l =
       let w = f .width in
       let k = (c .nodes + c .edges) * 4 in
       let labels = numbers 4 (c .edges) (drop (c .nodes * 4) p) in
@@ -153,18 +150,24 @@ module _ (f : Format) where
       ap (numbers 4 (c .edges)) (drop-append-le (c .nodes * 4) p q (omega arith))
       ∙ numbers-front 4 (c .edges) (drop (c .nodes * 4) p) q (omega (arith, length-drop (c .nodes * 4) p)) in
       rw (labels-front, drop-append-le k p q (omega arith))
-      (alike-test _ _ 5 (long-front p q k (omega arith)) (λ _.
-      alike-then _ _ (edges-more labels 0 (drop k p) q (rw (length-numbers 4 (c .edges)) (omega (arith, length-drop k p))) (omega arith)) (λ x left.
+      (alike-test _ _ _ _ refl (long-front p q k (omega arith)) (λ _.
+      alike-then _ _ (edges-more long longer labels 0 (drop k p) q (rw (length-numbers 4 (c .edges)) (omega (arith, length-drop k p))) (omega arith)) (λ x left.
       rw (
-        lists-5 f c p (x .0) (x .1) (λ e. omega (arith, e)),
-        lists-5 f c (p ++ q) (x .0) (x .1 ++ q) (λ e. omega (arith, e, length-append (x .1) q)),
-      ) (stopped (refusal 5)))))
+        lists-5 f long c p (x .0) (x .1) (λ e. omega (arith, e)),
+        lists-5 f longer c (p ++ q) (x .0) (x .1 ++ q) (λ e. omega (arith, e, length-append (x .1) q)),
+      ) (stopped _ _ refl))))
 
   counts-more : (p q : List ℕ) → headerBytes f ≤ length p → Same (Within f) (readCounts f p) (readCounts f (p ++ q))
   unfolding readCounts
   counts-more p q l =
-      alike-test _ _ 5 (long-front p q (headerBytes f) (omega arith)) (λ _.
-      alike-test _ _ 4 (ap (countsFit f) counts-front) (λ e. went _ _ counts-front (fits-within f (countsAt f p) e)))
+      alike-test _ _ _ _ refl (long-front p q (headerBytes f) (omega arith)) (λ _.
+      alike-test _ _ _ _ refl (ap (λ (c : Counts). leb (c .nodes) (f .most .nodes)) counts-front) (λ n.
+      alike-test _ _ _ _ refl (ap (λ (c : Counts). leb (c .edges) (f .most .edges)) counts-front) (λ e.
+      alike-test _ _ _ _ refl (ap (λ (c : Counts). leb (c .sources) (f .most .sources)) counts-front) (λ s.
+      alike-test _ _ _ _ refl (ap (λ (c : Counts). leb (c .targets) (f .most .targets)) counts-front) (λ t.
+      alike-test _ _ _ _ refl (ap (λ (c : Counts). leb (c .pairs) (f .most .pairs)) counts-front) (λ u.
+      went _ _ counts-front
+      (record { nodes = leb-true _ _ n; edges = leb-true _ _ e; sources = leb-true _ _ s; targets = leb-true _ _ t; pairs = leb-true _ _ u })))))))
     where
       counts-front : countsAt f (p ++ q) ≡ countsAt f p
       counts-front = λ i. record {
@@ -180,7 +183,7 @@ module _ (f : Format) where
   in-more p q l =
       let whole : headerBytes f ≤ length p = omega arith in
       rw (drop-append-le (headerBytes f) p q whole)
-      (alike-then _ _ (counts-more p q whole) (λ c h. body-more c (drop (headerBytes f) p) q h (omega (arith, length-drop (headerBytes f) p))))
+      (alike-then _ _ (counts-more p q whole) (λ c h. body-more (length p) (length (p ++ q)) c (drop (headerBytes f) p) q h (omega (arith, length-drop (headerBytes f) p))))
 
 -- ---- the whole
 
@@ -188,20 +191,24 @@ version-more : (p q : List ℕ) → 15 ≤ length p → Same (λ v. Unit {0}) (r
 unfolding readVersion
 version-more p q l =
     rw (take-append-le 3 p q (omega arith), number-front p q 2 3 (omega arith))
-    (alike-test _ _ 1 (long-front p q 15 (omega arith)) (λ _. alike-test _ _ 2 refl (λ _. went _ _ refl tt)))
+    (alike-test _ _ _ _ refl (long-front p q 15 (omega arith)) (λ _. alike-test _ _ _ _ refl refl (λ _. went _ _ refl tt)))
 
-read-more : (p q : List ℕ) → formBytes form1 (form1 .most) (form1 .mostPorts) < length p → readAs form1 (p ++ q) ≡ readAs form1 p
+read-more : (p q : List ℕ) → formBytes form1 (form1 .most) (form1 .mostPorts) < length p → Same (λ g. Unit {0}) (readAs form1 p) (readAs form1 (p ++ q))
 unfolding readAs
-read-more p q l =
-    same-answers {P = λ g. Unit {0}}
-    (alike-then _ _ (version-more p q (omega arith)) (λ v _. alike-test _ _ 3 refl (λ _. in-more form1 p q l)))
+read-more p q l = alike-then _ _ (version-more p q (omega arith)) (λ v _. alike-test _ _ _ _ refl refl (λ _. in-more form1 p q l))
+
+-- the report tells of a refusal its number alone
+same-told : {x y : Answer Graph} → Same (λ g. Unit {0}) x y → told (y >>= unpaired) ≡ told (x >>= unpaired)
+unfolding _>>=_
+same-told (stopped r s e) = ap refusedLine e
+same-told (went a b e p) = ap (λ (g : Graph). told (unpaired g)) e
 
 pub report-of-prefix : (n : ℕ) (b : List ℕ) → formBytes form1 (form1 .most) (form1 .mostPorts) < n → reportText (take n b) ≡ reportText b
 unfolding reportText
-report-of-prefix n b l = ap (λ (m : Answer Graph). told (m >>= unpaired)) (go (leb (length b) n) refl)
+report-of-prefix n b l = go (leb (length b) n) refl
   where
-    go : (t : Bool) → leb (length b) n ≡ t → readAs form1 (take n b) ≡ readAs form1 b
-    go true e = ap (readAs form1) (take-all n b (leb-true _ _ e))
+    go : (t : Bool) → leb (length b) n ≡ t → told (readAs form1 (take n b) >>= unpaired) ≡ told (readAs form1 b >>= unpaired)
+    go true e = ap (λ (b : List ℕ). told (readAs form1 b >>= unpaired)) (take-all n b (leb-true _ _ e))
     go false e =
         let long : length (take n b) ≡ n = length-take-le n b (omega (arith, leb-false (length b) n e)) in
-        sym (read-more (take n b) (drop n b) (omega arith)) ∙ ap (readAs form1) (take-append-drop n b)
+        sym (same-told (read-more (take n b) (drop n b) (omega arith))) ∙ ap (λ (b : List ℕ). told (readAs form1 b >>= unpaired)) (take-append-drop n b)

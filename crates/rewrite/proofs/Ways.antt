@@ -34,9 +34,9 @@ module _ {b : List ℕ} {z : Sizes} (s : Stored b z) (old : List ℕ) where
   unfolding six
   six-are = ap (λ (y : Sizes). y .nodes ∷ y .edges ∷ y .ports ∷ y .sources ∷ y .targets ∷ y .pairs ∷ []) (s .sizes)
 
-  pub sizes-10 : length old < 24 → Gives (readCall b (length old)) (call.Refused (record { no = 10 })) old old
+  pub sizes-10 : length old < 24 → Gives (readCall b (length old)) (call.Refused (record { no = 10; place = 0 })) old old
   unfolding fit _else_ _>>_ _>>=_
-  sizes-10 h = gives-refused (record { no = 10 }) old (rw (s .read-as, lt-leb 24 (length old) h))
+  sizes-10 h = gives-refused (record { no = 10; place = 0 }) old (rw (s .read-as, lt-leb 24 (length old) h))
 
   pub sizes-0 : 24 ≤ length old → (new : List ℕ) → new ≡ puts old (rowAt 0 4) 0 (z .nodes ∷ z .edges ∷ z .ports ∷ z .sources ∷ z .targets ∷ z .pairs ∷ [])
       → Gives (readCall b (length old)) (call.Done 24 0) old new

@@ -39,7 +39,7 @@ pub fn read_sizes(src: &[u8], out: &mut [u8]) -> Outcome
         return Outcome::Refused(graph.refusal());
     };
     if out.len() < SIZES_BYTES {
-        return Outcome::Refused(Refusal { no: 10 });
+        return Outcome::Refused(Refusal { no: 10, place: 0 });
     }
     put_sizes(out, z);
     Outcome::Done {

@@ -19,7 +19,7 @@ use Rattle.form.specs.declared.Step.the-variants as step
 use Rattle.form.specs.declared.Step.{Step}
 use Rattle.form.proofs.Answers.{gives-refused, test-answered, work-short, work-enough, room-enough}
 use Rattle.form.proofs.Stored.{unread, stored}
-use Rattle.graph.specs.Answer.{Answer, Result, answered, refused, _else_}
+use Rattle.graph.specs.Answer.{Answer, Result, answered, refused, _else_, refusal}
 use Rattle.graph.specs.Answer as answer
 use Rattle.graph.specs.Calls.{Next, idList, unpaired, inWorkRoom, onGraph, roomSpiderize, spiderizeStep, spiderizeAllStep}
 use Rattle.graph.specs.Graph.{Graph, Format}
@@ -49,7 +49,7 @@ pub record Opened (b : List ℕ) (lent : ℕ) (z : Sizes) : Type 0 where
   pub nodes : z .nodes ≡ length (graphOf b .labels)
   pub pairs : length (graphOf b .pairs) ≡ z .pairs
 
-module _ (b : List ℕ) (lent : ℕ) {w : Step} (tests : w ≡ tested (leb roomSpiderize lent else 10)) where
+module _ (b : List ℕ) (lent : ℕ) {w : Step} (tests : w ≡ tested (leb roomSpiderize lent else refusal 10)) where
   pub opened : {n : ℕ} → w ≡ step.Number n → {r : Reading} → r ≡ reading (read b) → Below 256 b → {z : Sizes} → r ≡ reads.Sized z → Opened b lent z
   opened {n} e {r} is bytes {z} d =
       let s = stored b r is bytes z d in
@@ -76,7 +76,7 @@ stopped {b} o next old {x = x} e is h = passes (is ∙ ap refusalIn e) (gives-by
 
 pub none-paired : (g : Graph) (r : Step) → r ≡ tested (unpaired g) → (n : ℕ) → r ≡ step.Number n → length (g .pairs) ≡ 0
 unfolding unpaired
-none-paired g r is n e = eqb-true (length (g .pairs)) 0 (passed _ 8 _ (test-answered (unpaired g) r is n e .1) .0)
+none-paired g r is n e = eqb-true (length (g .pairs)) 0 (passed _ _ _ (test-answered (unpaired g) r is n e .1) .0)
 
 -- ---- the steps
 

@@ -18,7 +18,7 @@ use Rattle.le.proofs.Numbers.{length-row}
 use Rattle.le.proofs.Rows.{wide-some, holds-same, length-puts, puts-none, puts-append}
 use Rattle.le.proofs.Stores.{sets-append}
 use Rattle.graph.specs.Answer as answer
-use Rattle.graph.specs.Answer.{refused, answered, writing, lay, _else_, _>>_}
+use Rattle.graph.specs.Answer.{refused, answered, writing, lay, _else_, _>>_, refusal}
 use Rattle.graph.specs.Calls.{Next, made}
 use Rattle.graph.specs.Form.{header, encode, formBytes, labelRow, body}
 use Rattle.graph.specs.Graph as graph
@@ -167,7 +167,7 @@ module _ (x : Next) (y : Sizes) (is : y ≡ sizesOf (fitting (x .graph)) (x .gra
   result-refused r e = look (sizesFit largest (countsOf y) (y .ports)) (leb (formBytes (formatFor y) (countsOf y) (y .ports)) room) refl refl e
     where
       look : (a c : Bool) → sizesFit largest (countsOf y) (y .ports) ≡ a → leb (formBytes (formatFor y) (countsOf y) (y .ports)) room ≡ c
-          → ((a else 9) >> ((c else 10) >> answered (formBytes (formatFor y) (countsOf y) (y .ports)))) ≡ refused r → made room x ≡ refused r
+          → ((a else refusal 9) >> ((c else refusal 10) >> answered (formBytes (formatFor y) (countsOf y) (y .ports)))) ≡ refused r → made room x ≡ refused r
       look true true p q h = absurd (never (sym h))
       look true false p q h = made-10 room x (limits-are ∙ p) (rw bytes-are (leb-false _ _ q)) ∙ ap refused (same-refusal h)
       look false c p q h = made-9 room x (limits-are ∙ p) ∙ ap refused (same-refusal h)
@@ -175,8 +175,8 @@ module _ (x : Next) (y : Sizes) (is : y ≡ sizesOf (fitting (x .graph)) (x .gra
   pub result-fits : (n : ℕ) → resultSize y room ≡ answered n → Fits x y room n
   unfolding resultSize
   result-fits n e =
-      let p = passed (sizesFit largest (countsOf y) (y .ports)) 9 _ e in
-      let q = passed (leb (formBytes (formatFor y) (countsOf y) (y .ports)) room) 10 _ (p .1) in
+      let p = passed (sizesFit largest (countsOf y) (y .ports)) _ _ e in
+      let q = passed (leb (formBytes (formatFor y) (countsOf y) (y .ports)) room) _ _ (p .1) in
       let long = sym (same-answer (q .1)) in
       let enough = leb-true _ _ (q .0) in
       let fits = is ∙ ap (λ (z : Sizes). fitted (countsOf z) (z .ports)) (sym is) in

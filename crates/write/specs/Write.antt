@@ -10,7 +10,7 @@ use Rattle.le.specs.Rows.{Holds, puts}
 use Rattle.le.specs.declared.Row.{Row}
 use Rattle.graph.specs.Graph.{Counts, Format, largest, sizesFit}
 use Rattle.graph.specs.Form.{header, formBytes}
-use Rattle.graph.specs.Answer.{Answer, answered, _else_, _>>_}
+use Rattle.graph.specs.Answer.{Answer, answered, _else_, _>>_, refusal}
 use Rattle.graph.specs.Versions.{fittingSizes}
 use Rattle.form.specs.Form.{sized, countsOf, Low, labelsOf, bodyOf, bodySize}
 use Rattle.form.specs.declared.Sizes.{Sizes}
@@ -30,8 +30,8 @@ fitted c ports = sized (fittingSizes c ports .width) c ports
 -- a result of these sizes: 9 it passes a limit, 10 its form is longer than the room; else the bytes of its form
 unfoldable pub resultSize : Sizes → ℕ → Answer ℕ
 resultSize y room = do
-  sizesFit largest (countsOf y) (y .ports) else 9
-  leb (formBytes (formatFor y) (countsOf y) (y .ports)) room else 10
+  sizesFit largest (countsOf y) (y .ports) else refusal 9
+  leb (formBytes (formatFor y) (countsOf y) (y .ports)) room else refusal 10
   answered (formBytes (formatFor y) (countsOf y) (y .ports))
 
 -- a buffer with the header of a graph of these sizes at its front

@@ -75,11 +75,11 @@ pub fn result_size(y: Sizes, room: usize) -> Step
     ensures { λ r. ⌜ r ≡ numbered (resultSize y room) ⌝ }
 {
     if !within_limits(y) {
-        return Step::Refused(Refusal { no: 9 });
+        return Step::Refused(Refusal { no: 9, place: 0 });
     }
     let bytes = form_bytes(y);
     if room < bytes {
-        return Step::Refused(Refusal { no: 10 });
+        return Step::Refused(Refusal { no: 10, place: 0 });
     }
     Step::Number(bytes)
 }

@@ -89,7 +89,7 @@ mul-if1 c =
 returns-4 : tie.Need-returns-4
 returns-4 c =
     let f = c .before .before .before .before .before .flag-nodes in
-    gives-refused (record { no = 10 }) (now (c .before .before .before .before .before .before .before .before .before .before .before .before .before .before .before .before .before .before .before .before .args .list))
+    gives-refused (record { no = 10; place = 0 }) (now (c .before .before .before .before .before .before .before .before .before .before .before .before .before .before .before .before .before .before .before .before .args .list))
     (whole (c .before .before .before .before .before .before .before) ∙ listing-10 _ _ (form (c .before .before .before .before .before .before .before .before .before .before)) (words (f .last .0)) (f .result .ids) (f .result .free) (f .ensures) _ (c .if1 .taken))
 
 put-chosen-requires : tie.Need-put-chosen-requires

@@ -25,7 +25,7 @@ returns : tie.Need-returns
 returns c = omega (arith, ap packedOutcome (c .before .x .given .1))
 
 returns-2 : tie.Need-returns-2
-returns-2 c = omega (arith, ap packedOutcome (c .before .before .x2 .given .1))
+returns-2 c = omega (arith, c .place-in-32-bits .ensures, ap packedOutcome (c .before .before .before .x2 .given .1))
 
 pub pack-spec : {M : Type 1} → statement M
 pack-spec =
@@ -35,6 +35,9 @@ pack-spec =
     mul-result
     mul-result-2
     add-result
+    (λ c. search needs)
+    (λ c. search needs)
+    (λ c κs. search needs)
     (λ c. search needs)
     (λ c. search needs)
     returns

@@ -26,7 +26,7 @@ mul-if1 : tie.Need-mul-if1
 mul-if1 c = let l = small (c .before .pre .2) in omega arith
 
 returns : tie.Need-returns
-returns c label = let a = c .before .before .args in cut (meant (a .f)) (now (a .s)) (a .at) (a .sum) (a .bound) (omega arith) label (omega arith)
+returns c = (tt, λ label. let a = c .before .before .args in cut (meant (a .f)) (now (a .s)) (a .at) (a .sum) (a .bound) (omega arith) label (omega arith))
 
 ports-at-requires : tie.Need-ports-at-requires
 ports-at-requires c κs = record { wide = c .before .before .pre .2 .width; inside = omega arith }
@@ -40,25 +40,31 @@ mul-bytes c =
     omega (arith, mul-le-mul-left (entries c) (l .narrow))
 
 returns-2 : tie.Need-returns-2
-returns-2 c label =
+returns-2 c =
     let d = c .before in
-    let a = d .before .before .before .args in
-    over (meant (a .f)) (now (a .s)) (a .at) (a .sum) (a .bound) (omega arith) label (entries d) (counted d) (omega arith) (omega arith)
+    let a = d .before .before .before .args in (
+      omega arith,
+      λ label. over (meant (a .f)) (now (a .s)) (a .at) (a .sum) (a .bound) (omega arith) label (entries d) (counted d) (omega arith) (omega arith),
+    )
 
 returns-3 : tie.Need-returns-3
-returns-3 c label =
+returns-3 c =
     let d = c .before .before in
-    let a = d .before .before .before .args in
-    short (meant (a .f)) (now (a .s)) (a .at) (a .sum) (a .bound) (omega arith) label (entries d) (counted d) (omega arith) (omega arith) (omega arith)
+    let a = d .before .before .before .args in (
+      tt,
+      λ label. short (meant (a .f)) (now (a .s)) (a .at) (a .sum) (a .bound) (omega arith) label (entries d) (counted d) (omega arith) (omega arith) (omega arith),
+    )
 
 returns-4 : tie.Need-returns-4
-returns-4 c label =
+returns-4 c =
     let d = c .before .before .before in
     let a = d .before .before .before .args in
-    let ids = c .ids-at .result in
-    ap (λ (at : ℕ). Next (a .sum + entries d) at (ids .bound)) (c .ids-at .ensures .0)
-    ∙ whole (meant (a .f)) (now (a .s)) (a .at) (a .sum) (a .bound) (omega arith) label (entries d) (counted d) (omega arith) (omega arith) (omega arith)
-    (ids .bound) (c .ids-at .ensures .1)
+    let ids = c .ids-at .result in (
+      tt,
+      λ label. ap (λ (at : ℕ). Next (a .sum + entries d) at (ids .bound)) (c .ids-at .ensures .0)
+          ∙ whole (meant (a .f)) (now (a .s)) (a .at) (a .sum) (a .bound) (omega arith) label (entries d) (counted d) (omega arith) (omega arith) (omega arith)
+          (ids .bound) (c .ids-at .ensures .1),
+    )
 
 pub read-edge-spec : {M : Type 1} → statement M
 read-edge-spec =

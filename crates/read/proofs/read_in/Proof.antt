@@ -13,7 +13,7 @@ use Rattle.graph.specs.Graph.{Within, Usable}
 use Rattle.graph.specs.Answer.{answered}
 use Rattle.graph.specs.Read.{readCounts, readBody, readIn}
 use Rattle.graph.proofs.Steps.{stops, goes}
-use Rattle.graph.proofs.Verdicts.{counts-passed}
+use Rattle.graph.proofs.ReadWrite.{counts-passed}
 use Rattle.read.specs.Steps.{measured}
 use Rattle.read.proofs.Whole.{head-refused, head-read}
 use Rattle.read.proofs.read_in.Statement.{statement}
@@ -45,7 +45,7 @@ unfolding readIn
 returns-2 c =
     let a = c .before .before .before .before .before .before .before .args in
     let z = countsOf (sizes (c .before .before .before)) in
-    c .read-body .ensures ∙ ap (λ (f : Format). measured (f .width) (readBody (meant f) z (drop (headerBytes (meant f)) (now (a .s))))) (c .before .known-width .ensures)
+    c .read-body .ensures ∙ ap (λ (f : Format). measured (f .width) (readBody (meant f) (length (now (a .s))) z (drop (headerBytes (meant f)) (now (a .s))))) (c .before .known-width .ensures)
     ∙ sym (ap (measured (a .f .width)) (goes _ (counts (c .before .before .before))))
 
 pub read-in-spec : {M : Type 1} → statement M
