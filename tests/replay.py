@@ -48,6 +48,7 @@ def cases(data):
     answered = [i for i in every if found[i][0]]
     yield "as-recorded", data, len(found), []
     yield "every-number", changed(data, [due for _, due, _ in found]), len(found), every
+    yield "every-place", changed(data, [due + 4 for _, due, _ in found]), len(found), every
     yield "every-high-byte", changed(data, [due + 7 for _, due, _ in found]), len(found), every
     yield "every-first-byte", changed(data, [found[i][0][0] for i in answered]), len(found), answered
     yield "every-last-byte", changed(data, [found[i][0][-1] for i in answered]), len(found), answered

@@ -52,7 +52,7 @@ fn subset(rng: &mut Rng, set: usize, width: usize) -> Vec<u8> {
     id_bytes(ids, width)
 }
 
-/// A list of ids of so many bytes: none, one, some with repeats, all up or down, very many; now and then with a bad id or a broken end.
+/// A list of ids of so many bytes: none, one, some with repeats, all up or down, very many; now and then with bad ids, a broken end, or both.
 pub fn id_list(rng: &mut Rng, count: usize, width: usize) -> Vec<u8> {
     let mut ids: Vec<usize> = match rng.below(10) {
         0 => vec![],
@@ -66,8 +66,17 @@ pub fn id_list(rng: &mut Rng, count: usize, width: usize) -> Vec<u8> {
         }
     };
     if rng.once_in(12) {
-        let at = rng.between(0, ids.len());
-        ids.insert(at, rng.pick(&bad_ids(count, width)));
+        for _ in 0..rng.pick(&[1, 1, 2, 3]) {
+            let at = rng.between(0, ids.len());
+            ids.insert(at, rng.pick(&bad_ids(count, width)));
+        }
+        // A broken end comes before them.
+        if rng.once_in(4) {
+            ids.push(count);
+            let mut list = id_bytes(ids, width);
+            list.pop();
+            return list;
+        }
     }
     broken(rng, id_bytes(ids, width))
 }

@@ -1,6 +1,7 @@
 //! A call of an exported function, and what it must give.
 
-use crate::form::Refusal;
+use crate::form;
+use crate::place::Refused;
 
 /// What a call is given to work on, in the order of the C parameters; a stored graph is the first input.
 #[derive(Debug, Clone)]
@@ -28,10 +29,10 @@ pub struct Answer {
 }
 
 /// What the arguments alone decide: an answer, or one of the refusals before 10.
-pub type Outcome = Result<Answer, Refusal>;
+pub type Outcome = Result<Answer, Refused>;
 
 /// What a call must give, the lengths of all that is lent being known.
-pub type Due<'a> = Result<&'a Answer, Refusal>;
+pub type Due<'a> = Result<&'a Answer, Refused>;
 
 impl Arguments {
     pub fn new(numbers: &[u32], inputs: &[&[u8]]) -> Self {
@@ -44,6 +45,12 @@ impl Arguments {
     pub fn graph(&self) -> &[u8] {
         &self.inputs[0]
     }
+
+    /// The version of the graph that is read, where there is one.
+    pub fn version(&self) -> Option<u16> {
+        let form = self.inputs.first()?;
+        Some(form::version(form).ok()?.number)
+    }
 }
 
 impl Answer {
@@ -53,11 +60,11 @@ impl Answer {
     }
 }
 
-/// The number that the function must return: `code | a << 8 | b << 32`.
+/// The number that the function must return: `code | a << 8 | b << 32`. Of a refusal a is 0 and b the place.
 pub fn packed(due: Due) -> u64 {
     match due {
         Ok(answer) => u64::from(answer.a) << 8 | u64::from(answer.b) << 32,
-        Err(refusal) => refusal as u64,
+        Err(refused) => refused.refusal as u64 | u64::from(refused.place) << 32,
     }
 }
 

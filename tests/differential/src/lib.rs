@@ -7,6 +7,7 @@ pub mod compare;
 pub mod convert;
 pub mod form;
 pub mod operation;
+pub mod place;
 pub mod port;
 pub mod record;
 pub mod rng;

@@ -79,12 +79,12 @@ impl Function {
     /// What a call must give. Work room too short is refused before all else, an answer buffer too short after all else.
     pub fn due<'a>(&self, call: &Call, outcome: &'a Outcome) -> Due<'a> {
         if call.room < self.room {
-            return Err(Refusal::Room);
+            return Err(Refusal::Room.nowhere());
         }
-        let answer = outcome.as_ref().map_err(|refusal| *refusal)?;
+        let answer = outcome.as_ref().map_err(|refused| *refused)?;
         let short = |(needed, length): (usize, &usize)| needed > *length;
         if answer.lengths().into_iter().zip(&call.answers).any(short) {
-            return Err(Refusal::Room);
+            return Err(Refusal::Room.nowhere());
         }
         Ok(answer)
     }

@@ -9,6 +9,7 @@ use crate::operation::Function;
 use crate::rng::Rng;
 use crate::rooms::Rooms;
 use crate::rows::{functions, GROUPS};
+use std::cmp::Reverse;
 use std::collections::BTreeMap;
 
 /// What every answer buffer is filled with before a call.
@@ -23,27 +24,32 @@ const RANDOM: usize = 16;
 /// Refused forms for each function and each refusal.
 const REFUSED: usize = 4;
 
+/// Of the forms whose places are worked out by hand, each function that reads a graph has one in so many.
+const DEALT: usize = 4;
+
 /// Of arguments picked by hand, those with up to so many bytes in and out are recorded in all calls. Of those with up to so
-/// many more, the shortest of each kind is recorded in the exact call.
+/// many more, one of each kind is recorded in the exact call: of those that tell the highest place up to 2, since 0 is told of
+/// much else, the shortest.
 const SMALL: usize = 300;
 const LARGE: usize = 42_000;
 
 pub struct List {
     pub bytes: Vec<u8>,
-    /// Of each record, the function's number and what kind of call it is.
-    pub records: Vec<(u8, Kind)>,
+    /// Of each record, the function's number, what kind of call it is, and the place that is told.
+    pub records: Vec<(u8, Kind, u32)>,
 }
 
-/// What a function returns as its code, and the versions of the graph that it reads and of the one that it answers.
-pub type Kind = (u8, Option<u16>, Option<u16>);
+/// What a function returns as its code, what a refusal's place tells, and the versions of the graph that it reads and of the
+/// one that it answers.
+pub type Kind = (u8, &'static str, Option<u16>, Option<u16>);
 
 fn kind(arguments: &Arguments, due: Due) -> Kind {
-    let version = |form: &Vec<u8>| Some(form::version(form).ok()?.number);
     let answer = due.ok().and_then(|answer| answer.written.first());
     (
         packed(due) as u8,
-        arguments.inputs.first().and_then(version),
-        answer.and_then(version),
+        due.err().map_or("", |refused| refused.what),
+        arguments.version(),
+        answer.and_then(|form| Some(form::version(form).ok()?.number)),
     )
 }
 
@@ -64,6 +70,10 @@ pub fn list(rooms: &Rooms, rng: &mut Rng) -> Result<List, String> {
     let by_hand: Vec<Vec<u8>> = cases::worked_by_hand().iter().map(form::write).collect();
     let refused = refused();
     let damaged = damaged();
+    let broken: Vec<Vec<u8>> = damage::with_places()
+        .into_iter()
+        .map(|(form, ..)| form)
+        .collect();
     let outgrown = form::write(&Drawing {
         sources: vec![2; VERSION_1.most.sources + 1],
         ..cases::p7()
@@ -78,6 +88,11 @@ pub fn list(rooms: &Rooms, rng: &mut Rng) -> Result<List, String> {
             }
             for forms in &refused {
                 for form in forms.iter().cycle().skip(row * REFUSED).take(REFUSED) {
+                    list.put_form(&function, form, Which::Exact, rng);
+                }
+            }
+            if function.operation.refusals.contains(&1) {
+                for form in broken.iter().skip(row % DEALT).step_by(DEALT) {
                     list.put_form(&function, form, Which::Exact, rng);
                 }
             }
@@ -138,18 +153,20 @@ impl List {
     /// Records a function with the arguments picked by hand.
     fn put_picked(&mut self, function: &Function, rng: &mut Rng) {
         let mut small: Vec<Kind> = vec![];
-        let mut large: BTreeMap<Kind, (usize, Arguments)> = BTreeMap::new();
+        let mut large: BTreeMap<Kind, ((Reverse<u32>, usize), Arguments)> = BTreeMap::new();
         for arguments in (function.operation.picked)() {
             let outcome = (function.operation.expected)(&arguments);
-            let due = outcome.as_ref().map_err(|refusal| *refusal);
+            let due = outcome.as_ref().map_err(|refused| *refused);
             let written = due.map_or(0, |answer| answer.written.concat().len());
             let bytes = arguments.inputs.concat().len() + written;
             let kind = kind(&arguments, due);
+            let place = due.err().map_or(0, |refused| refused.place.min(2));
+            let rank = (Reverse(place), bytes);
             if bytes <= SMALL {
                 small.push(kind);
                 self.put_calls(function, arguments, Which::All, rng);
-            } else if bytes <= LARGE && large.get(&kind).is_none_or(|(least, _)| bytes < *least) {
-                large.insert(kind, (bytes, arguments));
+            } else if bytes <= LARGE && large.get(&kind).is_none_or(|(least, _)| rank < *least) {
+                large.insert(kind, (rank, arguments));
             }
         }
         large.retain(|kind, _| !small.contains(kind));
@@ -199,7 +216,9 @@ impl List {
     }
 
     fn put_record(&mut self, number: u8, call: &Call, due: Due) {
-        self.records.push((number, kind(&call.arguments, due)));
+        let place = due.err().map_or(0, |refused| refused.place);
+        self.records
+            .push((number, kind(&call.arguments, due), place));
         self.bytes.push(number);
 
         self.bytes.push(call.arguments.numbers.len() as u8);
@@ -238,6 +257,7 @@ impl List {
 mod tests {
     use super::*;
     use crate::operation::Operation;
+    use crate::place::{SHORT, SINGLE_ID, TOLD};
     use std::collections::BTreeSet;
 
     /// The shortest calls that pass version 2's limits are too long to be recorded of every function that can pass them.
@@ -253,7 +273,7 @@ mod tests {
     }
 
     fn kinds(list: &List, operation: &Operation) -> BTreeSet<Kind> {
-        let own = |record: &&(u8, Kind)| record.0 == operation.number;
+        let own = |record: &&(u8, Kind, u32)| record.0 == operation.number;
         let records = list.records.iter().filter(own);
         records.map(|record| record.1).collect()
     }
@@ -288,8 +308,29 @@ mod tests {
             };
             let kinds = kinds(&list, operation);
             for &(read, answered) in due {
-                let kind = (0, read, answered);
+                let kind = (0, "", read, answered);
                 assert!(kinds.contains(&kind), "{}: {kind:?}", operation.name);
+            }
+        }
+    }
+
+    /// In both versions, where a version was read; a version 2 whose header is cut was not. And above 0, where it can be.
+    #[test]
+    fn every_place_is_recorded_several_times() {
+        let (list, _) = recorded();
+        for (code, what) in TOLD {
+            let versions: &[_] = match code {
+                1..=3 => &[None],
+                5 if what == SHORT => &[None, Some(1), Some(2)],
+                13 => &[Some(2)],
+                _ => &[Some(1), Some(2)],
+            };
+            for &version in versions {
+                let told = (code, what, version, None);
+                let always_0 = matches!(code, 2 | 13) || what == SINGLE_ID;
+                let records = list.records.iter().filter(|record| record.1 == told);
+                let places = records.filter(|record| always_0 || record.2 > 0);
+                assert!(places.count() >= 3, "{told:?}");
             }
         }
     }

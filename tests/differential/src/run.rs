@@ -1,9 +1,9 @@
 //! A run: the functions of every group on forms of many kinds, each call compared and counted.
 
-use crate::call::{packed, Arguments, Call, Due};
+use crate::call::{packed, Arguments, Call, Due, Outcome};
 use crate::cases::{self, damage, random};
 use crate::compare::{compare, Place, Salt};
-use crate::form;
+use crate::form::{self, Refusal};
 use crate::operation::{Forms, Function, Group};
 use crate::port::Port;
 use crate::rng::Rng;
@@ -34,6 +34,10 @@ pub struct Run {
     failed: u64,
     /// For each function's number, how many calls were to be answered (0) and refused by each number.
     codes: BTreeMap<u8, [u64; MOST_CODE + 1]>,
+    /// For each refusal's number, what its place tells, and the version that was read, how many calls were to be refused so.
+    told: BTreeMap<(u8, &'static str, Option<u16>), u64>,
+    /// How many calls were made again with other bytes behind the count that a 4 tells.
+    behind: u64,
     /// The disagreements already shown: one for each function and kind is enough to look at.
     shown: Vec<(u8, Discriminant<Place>)>,
 }
@@ -79,6 +83,8 @@ impl Run {
             passed: 0,
             failed: 0,
             codes: BTreeMap::new(),
+            told: BTreeMap::new(),
+            behind: 0,
             shown: vec![],
         })
     }
@@ -108,13 +114,14 @@ impl Run {
         let by_hand = [cases::worked_by_hand(), cases::outgrown_by_hand()].concat();
         let by_hand: Vec<Vec<u8>> = by_hand.iter().map(form::write).collect();
         let refused = damage::each_refusal();
+        let broken = damage::with_places().into_iter().map(|(form, ..)| form);
         let mut forms = 0;
         for form in by_hand.iter().chain(&refused) {
             forms += 1;
             self.form(&functions, form, Run::all_lengths);
         }
         let fixed = (group.fixed)(&mut self.rng).into_iter();
-        for form in fixed.chain(self.every(group, amount)) {
+        for form in broken.chain(fixed).chain(self.every(group, amount)) {
             forms += 1;
             self.form(&functions, &form, Run::some_lengths);
         }
@@ -151,9 +158,11 @@ impl Run {
     /// Calls with every length of answer buffers and work room.
     fn all_lengths(&mut self, function: &Function, arguments: Arguments) {
         let outcome = (function.operation.expected)(&arguments);
-        for call in function.calls(arguments, &outcome, &mut self.rng) {
-            self.call(function, &call, function.due(&call, &outcome));
+        let calls = function.calls(arguments, &outcome, &mut self.rng);
+        for call in &calls {
+            self.call(function, call, function.due(call, &outcome));
         }
+        self.call_behind(function, &calls[0], &outcome);
     }
 
     /// The exact call, and once in four times another one.
@@ -166,6 +175,30 @@ impl Run {
         }
         let exact = function.exact(arguments, &outcome);
         self.call(function, &exact, function.due(&exact, &outcome));
+        self.call_behind(function, &exact, &outcome);
+    }
+
+    /// Where a count has broken its limit, the call again with other bytes behind that count, all or one: they must not matter.
+    fn call_behind(&mut self, function: &Function, call: &Call, outcome: &Outcome) {
+        let Err(refused) = outcome else { return };
+        let form = call.arguments.graph();
+        let behind = refused.place as usize + form::width(form);
+        if refused.refusal != Refusal::Limit || behind == form.len() {
+            return;
+        }
+        let changed = if self.rng.once_in(2) {
+            behind..form.len()
+        } else {
+            let at = self.rng.between(behind, form.len() - 1);
+            at..at + 1
+        };
+        let mut call = call.clone();
+        let bytes = self.rng.bytes(changed.len());
+        call.arguments.inputs[0][changed].copy_from_slice(&bytes);
+        let again = (function.operation.expected)(&call.arguments);
+        assert_eq!(again.as_ref().err(), Some(refused), "they do not matter");
+        self.behind += 1;
+        self.call(function, &call, function.due(&call, &again));
     }
 
     /// Compares one call, counts it, and says whether the port agreed.
@@ -173,6 +206,11 @@ impl Run {
         let number = function.operation.number;
         let codes = self.codes.entry(number).or_default();
         codes[(packed(due) & 0xFF) as usize] += 1;
+        if let Err(refused) = due {
+            let version = call.arguments.version();
+            let told = (refused.refusal as u8, refused.what, version);
+            *self.told.entry(told).or_default() += 1;
+        }
         let salt = Salt {
             number: self.calls() as usize,
             whole_room: self.calls().is_multiple_of(64),
@@ -204,5 +242,10 @@ impl Run {
             }
             println!();
         }
+        for ((code, what, version), calls) in &self.told {
+            let read = version.map_or(String::new(), |version| format!(", version {version}"));
+            println!("refused by {code}, which tells {what}{read}: {calls} calls");
+        }
+        println!("other bytes behind a count: {} calls", self.behind);
     }
 }

@@ -2,14 +2,23 @@
 
 use crate::call::{Answer, Arguments, Outcome};
 use crate::convert::{from_lax, sizes, to_lax, Graph};
-use crate::form::{self, Refusal};
+use crate::form::{self, Refusal, Sizes};
+use crate::place::{in_form, in_list, Refused};
 use oracle::lax::NodeId;
 
-pub type Checked<T> = Result<T, Refusal>;
+pub type Checked<T> = Result<T, Refused>;
 
 /// 1 to 6, and 13.
 pub fn graph(arguments: &Arguments) -> Checked<Graph> {
-    Ok(to_lax(&form::read(arguments.graph())?))
+    let form = arguments.graph();
+    let drawing = form::read(form).map_err(|refusal| in_form(form, refusal))?;
+    Ok(to_lax(&drawing))
+}
+
+/// The same for the sizes alone.
+pub fn graph_sizes(arguments: &Arguments) -> Checked<Sizes> {
+    let form = arguments.graph();
+    form::sizes(form).map_err(|refusal| in_form(form, refusal))
 }
 
 /// 7: an input with a broken entry at its end, or an id not below its count. Entries are as wide as those of the graph
@@ -17,12 +26,9 @@ pub fn graph(arguments: &Arguments) -> Checked<Graph> {
 pub fn id_list(arguments: &Arguments, input: usize, count: usize) -> Checked<Vec<usize>> {
     let width = form::width(arguments.graph());
     let bytes = &arguments.inputs[input];
-    let ids = form::id_list(bytes, width);
-    if bytes.len().is_multiple_of(width) && ids.iter().all(|&id| (id as usize) < count) {
-        Ok(ids.into_iter().map(|id| id as usize).collect())
-    } else {
-        Err(Refusal::List)
-    }
+    in_list(bytes, width, Some(count))?;
+    let ids = form::id_list(bytes, width).into_iter();
+    Ok(ids.map(|id| id as usize).collect())
 }
 
 /// 7: the same of nodes.
@@ -36,7 +42,7 @@ pub fn stored(graph: &Graph) -> Checked<Vec<u8>> {
     if sizes(graph).within_limits() {
         Ok(form::write(&from_lax(graph)))
     } else {
-        Err(Refusal::Result)
+        Err(Refusal::Result.nowhere())
     }
 }
 

@@ -1,8 +1,11 @@
 //! Forms that are refused, and forms about to be.
 
 use super::small::place;
-use super::{p8, p8_outgrown, Drawing};
-use crate::form::{self, number, put_number, write_as, Version, MARK, VERSION_1, VERSION_2};
+use super::{p7, p8, p8_outgrown, Drawing};
+use crate::arguments::bad_ids;
+use crate::form::{self, number, put_number, write_as, Refusal};
+use crate::form::{Version, MARK, VERSION_1, VERSION_2};
+use crate::place;
 use crate::rng::Rng;
 
 /// Version fields that are neither version's.
@@ -170,6 +173,114 @@ fn other_forms() -> Vec<Vec<u8>> {
     ]
 }
 
+/// P7 broken in every way that a refusal tells a place of, for ids after the edges with a global source, a global target and a
+/// pair more; each with the refusal and the place worked out by hand. It is in version 1, and in version 2, which is not its
+/// own: 13 would come after all of these.
+pub fn with_places() -> Vec<(Vec<u8>, Refusal, usize)> {
+    let drawing = Drawing {
+        sources: vec![0],
+        targets: vec![1],
+        pairs: vec![(0, 2)],
+        ..p7()
+    };
+    let [one, two] = [VERSION_1, VERSION_2].map(|version| write_as(version, &drawing));
+    let mut forms = broken(&write_as(VERSION_1, &p7()), VERSION_1, [35, 47, 59]);
+    forms.extend(broken(&write_as(VERSION_2, &p7()), VERSION_2, [45, 69, 93]));
+    forms.extend(broken_after_edges(&one, 2, 59));
+    forms.extend(broken_after_edges(&two, 4, 93));
+    // Of version 2 the header is not wholly there, and its counts are above every limit.
+    let over = header(VERSION_2, [u32::MAX; 5]);
+    forms.extend([15, 24].map(|n| (over[..n].to_vec(), Refusal::Length, n)));
+    forms
+}
+
+/// P7 broken; its first edge, its second one and its end stand at these places.
+fn broken(p7: &[u8], version: Version, places: [usize; 3]) -> Vec<(Vec<u8>, Refusal, usize)> {
+    let (width, most) = (version.width, version.most);
+    let [first, second, end] = places;
+    let with = |numbers: &[(usize, usize)]| {
+        let mut form = p7.to_vec();
+        for &(at, number) in numbers {
+            put_number(&mut form, at, width, number as u32);
+        }
+        form
+    };
+    let cut = |n: usize| (p7[..n].to_vec(), Refusal::Length, n);
+    let over = |numbers: &[(usize, usize)], at: usize| (with(numbers), Refusal::Limit, at);
+    let foreign = |ats: &[usize]| {
+        let numbers: Vec<_> = ats.iter().map(|&at| (at, 3)).collect();
+        (with(&numbers), Refusal::Id, ats[0])
+    };
+    let header = |i: usize| 5 + i * width;
+    let sources = |edge: usize| edge;
+    let targets = |edge: usize| edge + width;
+    let id = |edge: usize, i: usize| edge + (2 + i) * width;
+    let many_sources = with(&[(sources(first), most.ports + 1)]);
+    vec![
+        (p7[..14].to_vec(), Refusal::Short, 14),
+        (vec![], Refusal::Short, 0),
+        (changed(p7, 0, 2, 0), Refusal::Mark, 0),
+        (changed(p7, 2, 2, 0), Refusal::Mark, 0),
+        (changed(p7, 3, 2, 7), Refusal::Version, 3),
+        (changed(p7, 3, 2, 0x0101), Refusal::Version, 3),
+        over(&[(header(0), most.nodes + 1)], header(0)),
+        over(&[(header(1), most.edges + 1)], header(1)),
+        over(&[(header(2), most.sources + 1)], header(2)),
+        over(&[(header(3), most.targets + 1)], header(3)),
+        over(&[(header(4), most.pairs + 1)], header(4)),
+        // Two of them: the first is told.
+        over(&[(header(3), 65_535), (header(4), 65_535)], header(3)),
+        over(&[(sources(first), most.ports + 1)], sources(first)),
+        // With the target count alone: the edge has one source, or all that there may be.
+        over(&[(targets(first), most.ports)], targets(first)),
+        over(&[(sources(first), most.ports)], targets(first)),
+        // The first edge has 4 ports.
+        over(&[(sources(second), most.ports - 3)], sources(second)),
+        over(&[(sources(second), most.ports - 4)], targets(second)),
+        over(&[(targets(second), most.ports - 6)], targets(second)),
+        // The counts come first, then their sum, then the ids.
+        (
+            many_sources[..id(first, 0) - 1].to_vec(),
+            Refusal::Length,
+            id(first, 0) - 1,
+        ),
+        (
+            many_sources[..id(first, 0)].to_vec(),
+            Refusal::Limit,
+            sources(first),
+        ),
+        cut(header(5)),
+        cut(first - 1),
+        cut(first),
+        cut(id(first, 0)),
+        cut(second - 1),
+        cut(end - 1),
+        ([p7, &[0]].concat(), Refusal::Length, end),
+        ([p7, &[0; 9]].concat(), Refusal::Length, end),
+        // The length is looked at before the ids.
+        (
+            with(&[(id(first, 0), 3)])[..end - 1].to_vec(),
+            Refusal::Length,
+            end - 1,
+        ),
+        foreign(&[id(first, 0)]),
+        foreign(&[id(second, 3)]),
+        foreign(&[id(first, 2), id(second, 0), id(second, 3)]),
+    ]
+}
+
+/// The form with foreign ids among the four after the edges, which stand at this place.
+fn broken_after_edges(form: &[u8], width: usize, at: usize) -> Vec<(Vec<u8>, Refusal, usize)> {
+    let foreign = |from: usize| {
+        let mut form = form.to_vec();
+        for i in from..4 {
+            put_number(&mut form, at + i * width, width, 3);
+        }
+        (form, Refusal::Id, at + from * width)
+    };
+    (0..4).map(foreign).collect()
+}
+
 /// Forms of two edges whose port sum stands about its limit, passed with a source count or with a target count; each
 /// whole, and cut in the second edge's counts, after them, in its ids and before the last byte. Counts that are far too
 /// high go without their ids.
@@ -263,16 +374,18 @@ fn changed_numbers(form: &[u8]) -> impl Iterator<Item = Vec<u8>> + '_ {
 pub fn damaged(rng: &mut Rng, mut form: Vec<u8>) -> Vec<u8> {
     let version = form::version(&form).expect("the form is good");
     let at = rng.below(form.len());
-    match rng.below(8) {
+    match rng.below(11) {
         0 => form[at] ^= 1 << rng.below(8),
         1 => form[at] = rng.number() as u8,
-        2 => form.truncate(at),
+        2 => form.truncate(rng.pick(&[at, form.len() - 1])),
         3 => {
             let more = rng.between(1, 5);
             form.extend(rng.bytes(more));
         }
         4 => change_header_count(rng, version, &mut form),
         5 => change_id(rng, version, &mut form),
+        6 | 7 => change_edge_counts(rng, version, &mut form),
+        8 => make_ids_foreign(rng, version, &mut form),
         _ => random_body(rng, version, &mut form),
     }
     form
@@ -300,6 +413,42 @@ fn change_id(rng: &mut Rng, version: Version, form: &mut [u8]) {
         let at = labels + width * rng.below(places);
         let id = rng.pick(&[nodes.wrapping_sub(1), nodes, 65_536, u32::MAX]);
         put_number(form, at, width, id);
+    }
+}
+
+/// Puts the counts of some edge so that the port sum passes its limit with its sources, with its targets alone, or just not.
+fn change_edge_counts(rng: &mut Rng, version: Version, form: &mut [u8]) {
+    let (edges, _) = place::edges(form, version);
+    if edges.is_empty() {
+        return;
+    }
+    let chosen = rng.below(edges.len());
+    let before = edges[..chosen]
+        .iter()
+        .map(|edge| edge.sources + edge.targets);
+    let left = version.most.ports.saturating_sub(before.sum());
+    let some = rng.between(0, left);
+    let (sources, targets) = rng.pick(&[
+        (left + 1, 0),
+        (left + 1, some),
+        (left, 1),
+        (some, left + 1 - some),
+        (0, left + 1),
+        (some, left - some),
+    ]);
+    let at = edges[chosen].at;
+    put_number(form, at, version.width, sources as u32);
+    put_number(form, at + version.width, version.width, targets as u32);
+}
+
+/// Puts some ids past the last node.
+fn make_ids_foreign(rng: &mut Rng, version: Version, form: &mut [u8]) {
+    let (of_edges, of_lists) = place::ids(form, version);
+    let places = [of_edges, of_lists].concat();
+    let bad = bad_ids(number(form, 5, version.width) as usize, version.width);
+    for _ in 0..rng.between(1, 4).min(places.len()) {
+        let id = rng.pick(&bad);
+        put_number(form, rng.pick(&places), version.width, id as u32);
     }
 }
 

@@ -74,8 +74,8 @@ fn graph_and_edge_list(graph: &[u8], rng: &mut Rng) -> Vec<Arguments> {
 }
 
 /// On P8, which has so many of what is deleted, in version 1, in version 2 because it has outgrown the other, and in
-/// version 2 nevertheless: none, the middle one twice, all, a bad id, a broken end, whole entries of the other version, and
-/// more entries than 16 bits count. On P1: an id of none. Then what goes back to version 1.
+/// version 2 nevertheless: none, the middle one twice, all, a bad id, several of them, a broken end, also after a bad id, whole
+/// entries of the other version, and more entries than 16 bits count. On P1: an id of none. Then what goes back to version 1.
 fn picked(count: usize) -> Vec<Arguments> {
     let forms = [
         form::write(&p8()),
@@ -87,11 +87,17 @@ fn picked(count: usize) -> Vec<Arguments> {
         let width = form::width(graph);
         let mut lists = vec![vec![], vec![1, 1], vec![count - 1, 0, 1], vec![count, 0]];
         lists.extend(bad_ids(count, width).into_iter().map(|id| vec![0, id]));
+        lists.extend([vec![0, 1, count], vec![1, count, 0, count]]);
         lists.push(vec![1; 65_537]);
         let lists = lists.into_iter().map(|ids| id_bytes(ids, width));
+        let bad_and_broken = id_bytes([count, 0], width)[..2 * width - 1].to_vec();
         let broken = [1, 2, 3, 5, 6, 7].map(|bytes| vec![0; bytes]);
         let of_the_other = [vec![1, 0, 0, 0], vec![0, 0, 1, 0]];
-        let lists: Vec<Vec<u8>> = lists.chain(broken).chain(of_the_other).collect();
+        let lists: Vec<Vec<u8>> = lists
+            .chain([bad_and_broken])
+            .chain(broken)
+            .chain(of_the_other)
+            .collect();
         picked.extend(with_lists(graph, &lists));
     }
     picked.extend(with_lists(&form::write(&p1()), &[vec![], vec![0, 0]]));

@@ -7,7 +7,7 @@ use crate::form::{self, VERSION_2};
 use crate::operation::Parameter::{Answered, Input};
 use crate::operation::{Forms, Group, Operation};
 use crate::rng::Rng;
-use crate::steps::{graph, made};
+use crate::steps::{graph, graph_sizes, made};
 
 pub const GROUP: Group = Group {
     name: "reading",
@@ -43,7 +43,7 @@ const OPERATIONS: &[Operation] = &[
 
 /// Six sizes of 4 bytes.
 fn read(arguments: &Arguments) -> Outcome {
-    let sizes = form::sizes(arguments.graph())?.bytes();
+    let sizes = graph_sizes(arguments)?.bytes();
     Ok(Answer {
         a: sizes.len() as u32,
         b: 0,

@@ -2,27 +2,21 @@
 
 use crate::call::{Arguments, Outcome};
 use crate::convert::{to_label, Graph};
-use crate::form::{self, Refusal};
+use crate::form;
+use crate::place::{in_id, in_list};
 use crate::steps::{graph, made, node_list, Checked};
 use oracle::lax::{EdgeId, Hyperedge, Hypergraph, NodeId, OpenHypergraph};
 
 /// 7: a broken entry at the end.
 fn label_list(bytes: &[u8]) -> Checked<Vec<u32>> {
-    if bytes.len().is_multiple_of(4) {
-        Ok(form::numbers(bytes).collect())
-    } else {
-        Err(Refusal::List)
-    }
+    in_list(bytes, 4, None)?;
+    Ok(form::numbers(bytes).collect())
 }
 
 /// 7: an id not below its count.
 fn known(id: u32, count: usize) -> Checked<usize> {
-    let id = id as usize;
-    if id < count {
-        Ok(id)
-    } else {
-        Err(Refusal::List)
-    }
+    in_id(id, count)?;
+    Ok(id as usize)
 }
 
 pub fn empty(_: &Arguments) -> Outcome {

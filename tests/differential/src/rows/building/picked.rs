@@ -70,6 +70,8 @@ pub fn new_edge() -> Vec<Arguments> {
         on_graph(9, &[2, 0, 2], &[1]);
         on_graph(SPIDER, &[0], &[0]);
         on_graph(9, &[0, 3], &[]);
+        on_graph(9, &[0, 1, 3], &[3]);
+        on_graph(9, &[0], &[1, 2, 3, 3]);
         on_graph(9, &[], &[65_535]);
         on_graph(9, &[65_536], &[]);
         on_graph(9, &[], &[0, u32::MAX as usize]);
@@ -82,6 +84,12 @@ pub fn new_edge() -> Vec<Arguments> {
         on_graph(9, &[], &[2; 8185]);
         on_graph(9, &[0; FAR[1]], &[0; 65_535]);
         picked.extend(broken_lists(&[&graph], width));
+        // A bad id in the first list comes before a broken end in the second, which comes before a bad id there.
+        let bad = id_bytes([2, 3, 0], width);
+        let bad_and_broken = &bad[..3 * width - 1];
+        picked.push(Arguments::new(&[9], &[&graph, &bad, bad_and_broken]));
+        picked.push(Arguments::new(&[9], &[&graph, &[], bad_and_broken]));
+        picked.push(Arguments::new(&[9], &[&graph, bad_and_broken, &bad]));
         // Whole entries of the other version.
         picked.push(Arguments::new(&[9], &[&graph, &[0; 2], &[0; 4]]));
         picked.push(Arguments::new(&[9], &[&graph, &[0, 0, 1, 0], &[]]));
@@ -186,11 +194,13 @@ pub fn add_edge_port() -> Vec<Arguments> {
     picked
 }
 
-/// A call with a label and two lists of entries of so many bytes: either list broken, and the first also too long.
+/// A call with a label and two lists of entries of so many bytes: either list broken, both, and the first also too long.
 fn broken_lists(graph: &[&[u8]], width: usize) -> Vec<Arguments> {
     let lists = [
         [vec![0; width + 1], vec![]],
         [vec![0; width], vec![0; width - 1]],
+        [vec![0; 2 * width + 1], vec![0; width + 1]],
+        [vec![], vec![0; 3 * width + 1]],
         [vec![0; width * 17_000 - 1], vec![]],
     ];
     lists

@@ -52,7 +52,7 @@ pub fn unpaired(arguments: &Arguments) -> Checked<Graph> {
     if graph.hypergraph.is_strict() {
         Ok(graph)
     } else {
-        Err(Refusal::Pair)
+        Err(Refusal::Pair.nowhere())
     }
 }
 
@@ -151,7 +151,7 @@ mod tests {
         assert_eq!(chosen(p6()), (id_bytes([0], 2), 3));
         assert_eq!(chosen(p7()), (id_bytes([0, 1, 2], 2), 2));
         let refused = cycle_breaking_nodes(&on(&p9())).map(|answer| answer.a);
-        assert_eq!(refused, Err(Refusal::Pair));
+        assert_eq!(refused, Err(Refusal::Pair.nowhere()));
     }
 
     /// P7 with as many nodes that are no part of it as make it version 2.

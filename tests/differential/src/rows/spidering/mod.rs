@@ -147,7 +147,8 @@ mod tests {
                 if nodes < 2048 { VERSION_1 } else { VERSION_2 }
             );
         }
-        assert_eq!(of(16_384).map(|answer| answer.a), Err(Refusal::Result));
+        let refused = Err(Refusal::Result.nowhere());
+        assert_eq!(of(16_384).map(|answer| answer.a), refused);
     }
 
     #[test]

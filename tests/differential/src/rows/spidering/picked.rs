@@ -30,8 +30,12 @@ pub fn spiderize_nodes() -> Vec<Arguments> {
         let lists = [vec![], vec![1], vec![2, 0, 2, 1]];
         let bad = bad_ids(3, width).into_iter().map(|id| vec![0, id]);
         picked.extend(lists.into_iter().chain(bad).map(|ids| on(&drawing, &ids)));
+        picked.push(on(&drawing, &[0, 1, 3]));
+        picked.push(on(&drawing, &[1, 3, 0, 3]));
         picked.push(on(&drawing, &[1; 65_537]));
-        // Broken ends, and whole entries of the other version.
+        // Broken ends, also after a bad id, and whole entries of the other version.
+        let bad_and_broken = id_bytes([3, 0], width)[..2 * width - 1].to_vec();
+        picked.extend(with_lists(&graph, &[bad_and_broken]));
         let broken = [1, 2, 3, 5, 6, 7].map(|bytes| vec![0; bytes]);
         let of_the_other = [vec![1, 0, 0, 0], vec![0, 0, 1, 0]];
         picked.extend(with_lists(&graph, &broken));
