@@ -13,8 +13,8 @@
  *                                         hold anything, and what it holds after the call is not fixed
  *
  * Every function returns code | a << 8 | b << 32: 8, 24 and 32 bits. Code is 0 on success, and a and b are what the function's comment says.
- * On a refusal code is the refusal's number, a and b are 0, and no answer buffer has been written to. On success the bytes of an answer
- * buffer past the answer stay as they were.
+ * On a refusal code is the refusal's number, a is 0, b is the place of what is refused (OHG_PLACE), and no answer buffer has been written to.
+ * On success the bytes of an answer buffer past the answer stay as they were.
  *
  * One graph has one form: an answered graph that fits version 1 is stored as version 1, any other as version 2, whichever version was read.
  * Lists and maps have the width of the graph that the call reads, whichever version its answer has: ohg_width.
@@ -34,6 +34,23 @@ extern "C" {
 #define OHG_CODE(answer) ((uint32_t)((answer) & 0xFF))
 #define OHG_A(answer) ((uint32_t)((answer) >> 8 & 0xFFFFFF))
 #define OHG_B(answer) ((uint32_t)((answer) >> 32))
+
+/* The place that a refusal carries: by 1 to 6 a byte of `src`, by 7 an entry of a list, both counted from 0. A place that is too large for
+ * 32 bits is given as 4,294,967,295.
+ *
+ *   1             the length
+ *   2             0
+ *   3             3
+ *   4             the first byte of the count that broke its limit: in the header the first such count; at an edge its source count if the
+ *                 sum of the ports passes the limit with it, else its target count
+ *   5             the length, if the form is too short: a header of version 2, labels, an edge's counts or ids, or lists that are not all
+ *                 there; else the first byte too many
+ *   6             the first byte of the first bad id in stored order: the edges, of each its sources and then its targets, the global
+ *                 sources, the global targets, the pairs
+ *   7             0 for an id given singly; these are looked at first. Then each list in the call's order: if its end is broken the number
+ *                 of its whole entries, else the index of its first bad id
+ *   8, 9, 10, 13  0 */
+#define OHG_PLACE(answer) OHG_B(answer)
 
 /* Why a call was refused; the first that holds, in this order, but OHG_SHORT_BUFFER for work room before all others, OHG_OTHER_LENGTH for a
  * header of version 2 that is cut before its counts are read, and 4 and 5 after the header as they are met from left to right. */

@@ -4,20 +4,19 @@
 /* One byte more than the largest form, so that a longer file is refused and not cut. */
 static uint8_t form[OHG_FORM_BYTES + 1], cut[OHG_FORM_BYTES], list[OHG_LIST_BYTES], room[OHG_ROOM_CYCLE_BREAKING_NODES];
 
+static int refused(uint64_t answer) {
+    fprintf(stderr, "refused by %u at %u: docs/INTERFACE.md says what to do\n", OHG_CODE(answer), OHG_PLACE(answer));
+    return 1;
+}
+
 int main(void) {
     size_t n = fread(form, 1, sizeof form, stdin);
     uint64_t choice = ohg_cycle_breaking_nodes(form, n, list, sizeof list, room, sizeof room);
-    if (OHG_CODE(choice) != OHG_DONE) {
-        printf("refused %u\n", OHG_CODE(choice));
-        return 1;
-    }
+    if (OHG_CODE(choice) != OHG_DONE) return refused(choice);
     printf("cut %u free %u\n", OHG_A(choice), OHG_B(choice));
     size_t chosen = ohg_width(form, n) * OHG_A(choice);
     uint64_t answer = ohg_spiderize_nodes(form, n, list, chosen, cut, sizeof cut, room, sizeof room);
-    if (OHG_CODE(answer) != OHG_DONE) {
-        printf("refused %u\n", OHG_CODE(answer));
-        return 1;
-    }
+    if (OHG_CODE(answer) != OHG_DONE) return refused(answer);
     uint64_t yes = ohg_no_loop(cut, OHG_A(answer), room, sizeof room);
     printf("no loop: %s\n", OHG_A(yes) ? "yes" : "no");
     return 0;

@@ -43,7 +43,7 @@ static uint8_t room[OHG_ROOM_CYCLE_BREAKING_NODES];
 /* The answer of a call; a refusal ends the program. */
 static uint64_t answered(const char *function, uint64_t answer) {
     if (OHG_CODE(answer) != OHG_DONE) {
-        fprintf(stderr, "%s refused by %u\n", function, OHG_CODE(answer));
+        fprintf(stderr, "%s refused by %u at %u\n", function, OHG_CODE(answer), OHG_PLACE(answer));
         exit(1);
     }
     return answer;

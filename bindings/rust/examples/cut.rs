@@ -1,8 +1,9 @@
 use ohg::Graph;
 use std::error::Error;
 use std::io::{stdin, Read};
+use std::process::ExitCode;
 
-fn main() -> Result<(), Box<dyn Error>> {
+fn cut() -> Result<(), Box<dyn Error>> {
     let mut bytes = Vec::new();
     stdin().read_to_end(&mut bytes)?;
     let graph = Graph::from_bytes(bytes)?;
@@ -11,4 +12,12 @@ fn main() -> Result<(), Box<dyn Error>> {
     let cut = graph.spiderize_nodes(&choice.nodes)?;
     println!("no loop: {}", if cut.no_loop()? { "yes" } else { "no" });
     Ok(())
+}
+
+fn main() -> ExitCode {
+    let Err(error) = cut() else {
+        return ExitCode::SUCCESS;
+    };
+    eprintln!("{error}");
+    ExitCode::FAILURE
 }

@@ -26,7 +26,7 @@
 //! - Probe and rewriter both use server, so the path is not once-fed. Afterwards each fresh node joins one entry to one
 //!   spider, merged and server each join two spiders, and the other wires are as they were, fed and used once.
 
-use ohg::{Graph, NodeId, Refusal};
+use ohg::{Graph, NodeId, Refused};
 
 const ARRIVED: NodeId = NodeId(0);
 const MERGED: NodeId = NodeId(1);
@@ -63,7 +63,7 @@ const BLOCKS: [(u32, &[NodeId], &[NodeId]); 8] = [
     (2, &[LEAVING], &[]),               // transmit
 ];
 
-fn show(name: &str, graph: &Graph) -> Result<(), Refusal> {
+fn show(name: &str, graph: &Graph) -> Result<(), Refused> {
     let sizes = graph.sizes();
     let said = |yes| if yes { "yes" } else { "no" };
     println!(
@@ -75,7 +75,7 @@ fn show(name: &str, graph: &Graph) -> Result<(), Refusal> {
     Ok(())
 }
 
-fn main() -> Result<(), Refusal> {
+fn main() -> Result<(), Refused> {
     let mut path = Graph::discrete(&WIRES.map(|(_, bits)| bits))?;
     for (kind, sources, targets) in BLOCKS {
         path.new_edge(kind, sources, targets)?;

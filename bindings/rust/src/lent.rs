@@ -1,6 +1,6 @@
 //! What calls are lent beside their arguments, and their answers taken apart.
 
-use crate::Refusal;
+use crate::{Refusal, Refused};
 use std::cell::RefCell;
 
 /// The most bytes that a stored form has: `OHG_FORM_BYTES`.
@@ -32,9 +32,12 @@ pub fn with<T>(call: impl FnOnce(&mut Lent) -> T) -> T {
 }
 
 /// The two numbers of an answer, or the refusal.
-pub fn answered(packed: u64) -> Result<(usize, u32), Refusal> {
+pub fn answered(packed: u64) -> Result<(usize, u32), Refused> {
     match (packed & 0xFF) as u8 {
         0 => Ok(((packed >> 8 & 0xFF_FFFF) as usize, (packed >> 32) as u32)),
-        code => Err(Refusal::of(code)),
+        code => Err(Refused {
+            by: Refusal::of(code),
+            place: (packed >> 32) as usize,
+        }),
     }
 }

@@ -2,13 +2,14 @@
 //! is proved to give exactly the answer, or the refusal, of its definition.
 //!
 //! A [`Graph`] owns the stored bytes of a drawing. Its methods have the names of the Rust original, open-hypergraphs;
-//! where that panics, or takes an id that is not there, they refuse. Each names the [`Refusal`]s that it may give. A
-//! refused call changes nothing. Lists may have any length; what passes a limit is refused.
+//! where that panics, or takes an id that is not there, they refuse. Each names the [`Refusal`]s that it may give; what is
+//! given is a [`Refused`], which says the place too. A refused call changes nothing. Lists may have any length; what passes a
+//! limit is refused.
 //!
 //! ```
-//! use ohg::{Graph, NodeId, Refusal};
+//! use ohg::{Graph, NodeId, Refused};
 //!
-//! # fn main() -> Result<(), Refusal> {
+//! # fn main() -> Result<(), Refused> {
 //! let mut graph = Graph::empty();
 //! let wire = graph.new_node(64)?;
 //! graph.new_edge(9, &[wire], &[wire])?;
@@ -31,7 +32,7 @@ mod refusal;
 
 use exported::*;
 use lent::{answered, Lent};
-pub use refusal::Refusal;
+pub use refusal::{Refusal, Refused};
 use std::array;
 
 /// The edge label that says spider; every other value is an operation.
@@ -87,7 +88,7 @@ impl Graph {
     /// Refused: [`NoHeader`](Refusal::NoHeader), [`NoMark`](Refusal::NoMark), [`OtherVersion`](Refusal::OtherVersion),
     /// [`OverLimit`](Refusal::OverLimit), [`OtherLength`](Refusal::OtherLength), [`ForeignId`](Refusal::ForeignId),
     /// [`OtherForm`](Refusal::OtherForm).
-    pub fn from_bytes(bytes: impl Into<Vec<u8>>) -> Result<Graph, Refusal> {
+    pub fn from_bytes(bytes: impl Into<Vec<u8>>) -> Result<Graph, Refused> {
         let form = bytes.into();
         read(&form)?;
         Ok(Graph { form })
@@ -102,7 +103,7 @@ impl Graph {
     /// Nodes of these labels and nothing else.
     ///
     /// Refused: [`ResultLimit`](Refusal::ResultLimit).
-    pub fn discrete(nodes: &[u32]) -> Result<Graph, Refusal> {
+    pub fn discrete(nodes: &[u32]) -> Result<Graph, Refused> {
         let nodes = labels(nodes);
         Graph::made(|lent| ohg_discrete(&nodes, &mut lent.form))
     }
@@ -110,7 +111,7 @@ impl Graph {
     /// Nodes of these labels, each a global source and a global target, in order.
     ///
     /// Refused: [`ResultLimit`](Refusal::ResultLimit).
-    pub fn identity(nodes: &[u32]) -> Result<Graph, Refusal> {
+    pub fn identity(nodes: &[u32]) -> Result<Graph, Refused> {
         let nodes = labels(nodes);
         Graph::made(|lent| ohg_identity(&nodes, &mut lent.form))
     }
@@ -119,7 +120,7 @@ impl Graph {
     /// targets the global targets.
     ///
     /// Refused: [`ResultLimit`](Refusal::ResultLimit).
-    pub fn singleton(label: u32, sources: &[u32], targets: &[u32]) -> Result<Graph, Refusal> {
+    pub fn singleton(label: u32, sources: &[u32], targets: &[u32]) -> Result<Graph, Refused> {
         let (sources, targets) = (labels(sources), labels(targets));
         Graph::made(|lent| ohg_singleton(label, &sources, &targets, &mut lent.form))
     }
@@ -137,7 +138,7 @@ impl Graph {
     /// Adds a node.
     ///
     /// Refused: [`ResultLimit`](Refusal::ResultLimit).
-    pub fn new_node(&mut self, label: u32) -> Result<NodeId, Refusal> {
+    pub fn new_node(&mut self, label: u32) -> Result<NodeId, Refused> {
         let node = self.replace(|form, lent| ohg_new_node(form, label, &mut lent.form))?;
         Ok(NodeId(node))
     }
@@ -150,7 +151,7 @@ impl Graph {
         label: u32,
         sources: &[NodeId],
         targets: &[NodeId],
-    ) -> Result<EdgeId, Refusal> {
+    ) -> Result<EdgeId, Refused> {
         let (sources, targets) = (self.node_ids(sources), self.node_ids(targets));
         let edge = self
             .replace(|form, lent| ohg_new_edge(form, label, &sources, &targets, &mut lent.form))?;
@@ -165,7 +166,7 @@ impl Graph {
         label: u32,
         sources: &[u32],
         targets: &[u32],
-    ) -> Result<(EdgeId, Interface), Refusal> {
+    ) -> Result<(EdgeId, Interface), Refused> {
         let mut fresh = (self.node_count()..).map(NodeId);
         let (source_labels, target_labels) = (labels(sources), labels(targets));
         let edge = self.replace(|form, lent| {
@@ -179,7 +180,7 @@ impl Graph {
     /// Adds a pending pair of nodes. No labels are compared.
     ///
     /// Refused: [`BadList`](Refusal::BadList), [`ResultLimit`](Refusal::ResultLimit).
-    pub fn unify(&mut self, v: NodeId, w: NodeId) -> Result<(), Refusal> {
+    pub fn unify(&mut self, v: NodeId, w: NodeId) -> Result<(), Refused> {
         self.replace(|form, lent| ohg_unify(form, v.0, w.0, &mut lent.form))?;
         Ok(())
     }
@@ -187,7 +188,7 @@ impl Graph {
     /// Adds a node at the end of an edge's sources.
     ///
     /// Refused: [`BadList`](Refusal::BadList), [`ResultLimit`](Refusal::ResultLimit).
-    pub fn add_edge_source(&mut self, edge: EdgeId, label: u32) -> Result<NodeId, Refusal> {
+    pub fn add_edge_source(&mut self, edge: EdgeId, label: u32) -> Result<NodeId, Refused> {
         let node =
             self.replace(|form, lent| ohg_add_edge_source(form, edge.0, label, &mut lent.form))?;
         Ok(NodeId(node))
@@ -196,7 +197,7 @@ impl Graph {
     /// Adds a node at the end of an edge's targets.
     ///
     /// Refused: [`BadList`](Refusal::BadList), [`ResultLimit`](Refusal::ResultLimit).
-    pub fn add_edge_target(&mut self, edge: EdgeId, label: u32) -> Result<NodeId, Refusal> {
+    pub fn add_edge_target(&mut self, edge: EdgeId, label: u32) -> Result<NodeId, Refused> {
         let node =
             self.replace(|form, lent| ohg_add_edge_target(form, edge.0, label, &mut lent.form))?;
         Ok(NodeId(node))
@@ -205,7 +206,7 @@ impl Graph {
     /// Deletes edges; the rest keep their order. Repeated ids count once.
     ///
     /// Refused: [`BadList`](Refusal::BadList).
-    pub fn delete_edges(&mut self, edges: &[EdgeId]) -> Result<(), Refusal> {
+    pub fn delete_edges(&mut self, edges: &[EdgeId]) -> Result<(), Refused> {
         let ids = self.ids(edges.iter().map(|edge| edge.0));
         self.replace(|form, lent| ohg_delete_edges(form, &ids, &mut lent.form, &mut lent.room))?;
         Ok(())
@@ -215,7 +216,7 @@ impl Graph {
     /// Answers where each old node went.
     ///
     /// Refused: [`BadList`](Refusal::BadList).
-    pub fn delete_nodes(&mut self, nodes: &[NodeId]) -> Result<Vec<Option<NodeId>>, Refusal> {
+    pub fn delete_nodes(&mut self, nodes: &[NodeId]) -> Result<Vec<Option<NodeId>>, Refused> {
         // Of the graph as it is read: what is left of it may be of the other version.
         let (width, gone) = (self.width(), self.gone());
         let (ids, mut map) = (self.node_ids(nodes), self.entry_for_each());
@@ -230,7 +231,7 @@ impl Graph {
     /// fewest.
     ///
     /// Refused: [`PendingPair`](Refusal::PendingPair).
-    pub fn cycle_breaking_nodes(&self) -> Result<Choice, Refusal> {
+    pub fn cycle_breaking_nodes(&self) -> Result<Choice, Refused> {
         let mut list = self.entry_for_each();
         let packed = lent::with(|l| ohg_cycle_breaking_nodes(&self.form, &mut list, &mut l.room));
         let (count, free) = answered(packed)?;
@@ -245,7 +246,7 @@ impl Graph {
     /// The graph with the wiring of all nodes made explicit by spiders.
     ///
     /// Refused: [`PendingPair`](Refusal::PendingPair), [`ResultLimit`](Refusal::ResultLimit).
-    pub fn spiderize(&self) -> Result<Graph, Refusal> {
+    pub fn spiderize(&self) -> Result<Graph, Refused> {
         Graph::made(|lent| ohg_spiderize(&self.form, &mut lent.form, &mut lent.room))
     }
 
@@ -253,7 +254,7 @@ impl Graph {
     ///
     /// Refused: [`BadList`](Refusal::BadList), [`PendingPair`](Refusal::PendingPair),
     /// [`ResultLimit`](Refusal::ResultLimit).
-    pub fn spiderize_nodes(&self, nodes: &[NodeId]) -> Result<Graph, Refusal> {
+    pub fn spiderize_nodes(&self, nodes: &[NodeId]) -> Result<Graph, Refused> {
         let ids = self.node_ids(nodes);
         Graph::made(|lent| ohg_spiderize_nodes(&self.form, &ids, &mut lent.form, &mut lent.room))
     }
@@ -261,7 +262,7 @@ impl Graph {
     /// Whether there is no directed cycle.
     ///
     /// Refused: [`PendingPair`](Refusal::PendingPair).
-    pub fn no_loop(&self) -> Result<bool, Refusal> {
+    pub fn no_loop(&self) -> Result<bool, Refused> {
         let packed = lent::with(|lent| ohg_no_loop(&self.form, &mut lent.room));
         Ok(answered(packed)?.0 == 1)
     }
@@ -272,13 +273,13 @@ impl Graph {
     /// A node that stands twice in a list is counted twice; a graph without nodes gets a yes.
     ///
     /// Refused: [`PendingPair`](Refusal::PendingPair).
-    pub fn once_fed(&self) -> Result<bool, Refusal> {
+    pub fn once_fed(&self) -> Result<bool, Refused> {
         let packed = lent::with(|lent| ohg_once_fed(&self.form, &mut lent.room));
         Ok(answered(packed)?.0 == 1)
     }
 
     /// The graph that a call answers.
-    fn made(call: impl FnOnce(&mut Lent) -> u64) -> Result<Graph, Refusal> {
+    fn made(call: impl FnOnce(&mut Lent) -> u64) -> Result<Graph, Refused> {
         lent::with(|lent| {
             let (bytes, _) = answered(call(lent))?;
             let form = lent.form[..bytes].to_vec();
@@ -287,7 +288,7 @@ impl Graph {
     }
 
     /// Becomes the graph that a call on this one answers, and gives the number answered beside it.
-    fn replace(&mut self, call: impl FnOnce(&[u8], &mut Lent) -> u64) -> Result<u32, Refusal> {
+    fn replace(&mut self, call: impl FnOnce(&[u8], &mut Lent) -> u64) -> Result<u32, Refused> {
         lent::with(|lent| {
             let (bytes, beside) = answered(call(&self.form, lent))?;
             lent.form[..bytes].clone_into(&mut self.form);
@@ -336,7 +337,7 @@ impl Graph {
 }
 
 /// The sizes of the graph that these bytes store.
-fn read(form: &[u8]) -> Result<Sizes, Refusal> {
+fn read(form: &[u8]) -> Result<Sizes, Refused> {
     let mut sizes = [0; 24];
     answered(ohg_read(form, &mut sizes))?;
     let [nodes, edges, ports, sources, targets, pairs] =

@@ -54,13 +54,13 @@ impl Refusal {
         let known = Refusal::ALL.into_iter().find(|r| r.number() == number);
         known.expect("libohg.a refuses by no other number")
     }
-}
 
-impl fmt::Display for Refusal {
-    /// The number, what was wrong, and what to do.
-    fn fmt(&self, f: &mut fmt::Formatter<'_>) -> fmt::Result {
-        let text = match self {
-            Refusal::NoHeader => "fewer than 15 bytes; check that this is a stored form, and whole",
+    /// What was wrong, and what to do.
+    fn advice(self) -> &'static str {
+        match self {
+            Refusal::NoHeader => {
+                "the bytes end within the header; check that this is a stored form, and whole"
+            }
             Refusal::NoMark => {
                 "the first three bytes are not `OHG`; check that this is a stored form"
             }
@@ -69,16 +69,16 @@ impl fmt::Display for Refusal {
             }
             Refusal::OverLimit => "a count is above its limit; split the drawing",
             Refusal::OtherLength => {
-                "the length is not what the counts call for; get the file again, whole"
+                "the bytes end too early, or are to end here; get the file again, whole"
             }
             Refusal::ForeignId => {
-                "a stored node id is not below the node count; get the file again, undamaged"
+                "a node id is not below the node count; get the file again, undamaged"
             }
             Refusal::OtherForm => {
                 "a form of version 2 whose graph fits version 1; write it by version 1"
             }
             Refusal::BadList => {
-                "an id in the call is not below its count; check the list against the graph's sizes"
+                "an id in the call is not below its count; check it against the graph's sizes"
             }
             Refusal::PendingPair => {
                 "the graph has a pending pair; draw joined nodes as one, or delete one of each pair"
@@ -87,9 +87,30 @@ impl fmt::Display for Refusal {
             Refusal::ShortBuffer => {
                 "a buffer or work room is too short; link the libohg.a that belongs to this crate"
             }
-        };
-        write!(f, "{}: {text}", self.number())
+        }
     }
 }
 
-impl Error for Refusal {}
+/// A refused call: why, and where.
+#[derive(Debug, Clone, Copy, PartialEq, Eq, Hash)]
+pub struct Refused {
+    /// Why the call was refused.
+    pub by: Refusal,
+    /// Where, as `docs/INTERFACE.md` says for each refusal: by 1 to 6 a byte of the stored form, by 7 an entry of a list,
+    /// both counted from 0; 0 for an id given singly, and by all others.
+    pub place: usize,
+}
+
+impl fmt::Display for Refused {
+    /// The number, the place where there is one, what was wrong, and what to do.
+    fn fmt(&self, f: &mut fmt::Formatter<'_>) -> fmt::Result {
+        let (number, place, advice) = (self.by.number(), self.place, self.by.advice());
+        match number {
+            1..=6 => write!(f, "{number} at byte {place}: {advice}"),
+            7 => write!(f, "{number} at entry {place}: {advice}"),
+            _ => write!(f, "{number}: {advice}"),
+        }
+    }
+}
+
+impl Error for Refused {}

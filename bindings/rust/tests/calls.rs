@@ -1,6 +1,6 @@
 //! Every call, on document 01's drawings P1 to P9 and on what it is to refuse.
 
-use ohg::{Choice, EdgeId, Graph, NodeId, Refusal, Sizes, SPIDER};
+use ohg::{Choice, EdgeId, Graph, NodeId, Refusal, Refused, Sizes, SPIDER};
 use std::thread;
 
 fn nodes(ids: &[u32]) -> Vec<NodeId> {
@@ -46,9 +46,13 @@ fn stored_larger(numbers: &[u32]) -> Vec<u8> {
     b"OHG\x02\0".iter().copied().chain(numbers).collect()
 }
 
-fn chosen(ids: &[u32], free: usize) -> Result<Choice, Refusal> {
+fn chosen(ids: &[u32], free: usize) -> Result<Choice, Refused> {
     let nodes = nodes(ids);
     Ok(Choice { nodes, free })
+}
+
+fn at(by: Refusal, place: usize) -> Refused {
+    Refused { by, place }
 }
 
 #[test]
@@ -173,32 +177,46 @@ fn spiderizing_makes_wiring_explicit() {
 }
 
 #[test]
-fn broken_bytes_are_refused() {
-    let header = stored(&[1, 0, 1, 0, 0, 7, 0]);
+fn broken_bytes_are_refused_and_their_place_told() {
     let refused = |bytes: &[u8]| Graph::from_bytes(bytes).unwrap_err();
-    assert_eq!(refused(&header[..14]), Refusal::NoHeader);
-    assert_eq!(refused(&[0; 15]), Refusal::NoMark);
-    assert_eq!(
-        refused(b"OHG\x03\0\0\0\0\0\0\0\0\0\0\0"),
-        Refusal::OtherVersion
-    );
-    assert_eq!(refused(&stored(&[2049, 0, 0, 0, 0])), Refusal::OverLimit);
-    assert_eq!(refused(&header), Refusal::OtherLength);
-    let foreign = stored(&[1, 0, 1, 0, 0, 7, 0, 1]);
-    assert_eq!(refused(&foreign), Refusal::ForeignId);
+    let header = stored(&[1, 0, 1, 0, 0, 7, 0]);
+    assert_eq!(refused(&header[..14]), at(Refusal::NoHeader, 14));
+    assert_eq!(refused(&[0; 15]), at(Refusal::NoMark, 0));
+    let other = refused(b"OHG\x03\0\0\0\0\0\0\0\0\0\0\0");
+    assert_eq!(other, at(Refusal::OtherVersion, 3));
+
+    // The first of the header's counts, and of an edge's the one with which the sum passes the limit.
+    let over = stored(&[0, 2048, 1025, 0, 1025]);
+    assert_eq!(refused(&over), at(Refusal::OverLimit, 9));
+    let sources_over = stored(&[0, 1, 0, 0, 0, 9, 0, 8193, 0]);
+    assert_eq!(refused(&sources_over), at(Refusal::OverLimit, 19));
+    let targets_over = stored(&[0, 1, 0, 0, 0, 9, 0, 8192, 1]);
+    assert_eq!(refused(&targets_over), at(Refusal::OverLimit, 21));
+
+    assert_eq!(refused(&header), at(Refusal::OtherLength, 19));
+    let mut longer = p7().as_bytes().to_vec();
+    longer.extend([0; 3]);
+    assert_eq!(refused(&longer), at(Refusal::OtherLength, 59));
+
+    // Of nodes 0 to 2 node 3, as the last edge's target and then also as the first one's source.
+    let mut foreign = p7().as_bytes().to_vec();
+    foreign[57] = 3;
+    assert_eq!(refused(&foreign), at(Refusal::ForeignId, 57));
+    foreign[39] = 3;
+    assert_eq!(refused(&foreign), at(Refusal::ForeignId, 39));
 }
 
 #[test]
-fn broken_bytes_of_version_2_are_refused() {
+fn broken_bytes_of_version_2_are_refused_and_their_place_told() {
     let refused = |bytes: &[u8]| Graph::from_bytes(bytes).unwrap_err();
-    let over = stored_larger(&[16_385, 0, 0, 0, 0]);
-    assert_eq!(refused(&over[..14]), Refusal::NoHeader);
-    assert_eq!(refused(&over[..24]), Refusal::OtherLength);
-    assert_eq!(refused(&over), Refusal::OverLimit);
-    let foreign = stored_larger(&[1, 0, 1, 0, 0, 7, 1]);
-    assert_eq!(refused(&foreign), Refusal::ForeignId);
+    let over = stored_larger(&[0, 16_385, 0, 0, 0]);
+    assert_eq!(refused(&over[..14]), at(Refusal::NoHeader, 14));
+    assert_eq!(refused(&over[..24]), at(Refusal::OtherLength, 24));
+    assert_eq!(refused(&over), at(Refusal::OverLimit, 9));
+    let foreign = stored_larger(&[1, 0, 2, 0, 0, 7, 0, 1]);
+    assert_eq!(refused(&foreign), at(Refusal::ForeignId, 33));
     let fits_version_1 = stored_larger(&[1, 0, 1, 0, 0, 7, 0]);
-    assert_eq!(refused(&fits_version_1), Refusal::OtherForm);
+    assert_eq!(refused(&fits_version_1), at(Refusal::OtherForm, 0));
 }
 
 #[test]
@@ -212,17 +230,23 @@ fn refuses_foreign_ids(whole: Graph) {
     let mut graph = whole.clone();
     let Sizes { nodes, edges, .. } = whole.sizes();
     let above = |count: usize| [count as u32, 65_535, 65_536, u32::MAX];
+    let bad = |place| at(Refusal::BadList, place);
+    let (first, there) = (NodeId(0), EdgeId(0));
     for (node, edge) in above(nodes).into_iter().zip(above(edges)) {
         let (node, edge) = (NodeId(node), EdgeId(edge));
-        assert_eq!(graph.new_edge(9, &[node], &[]), Err(Refusal::BadList));
-        assert_eq!(graph.new_edge(9, &[], &[node]), Err(Refusal::BadList));
-        assert_eq!(graph.unify(node, NodeId(0)), Err(Refusal::BadList));
-        assert_eq!(graph.unify(NodeId(0), node), Err(Refusal::BadList));
-        assert_eq!(graph.add_edge_source(edge, 7), Err(Refusal::BadList));
-        assert_eq!(graph.add_edge_target(edge, 7), Err(Refusal::BadList));
-        assert_eq!(graph.delete_edges(&[edge]), Err(Refusal::BadList));
-        assert_eq!(graph.delete_nodes(&[node]), Err(Refusal::BadList));
-        assert_eq!(graph.spiderize_nodes(&[node]), Err(Refusal::BadList));
+        assert_eq!(graph.new_edge(9, &[node], &[]), Err(bad(0)));
+        assert_eq!(graph.new_edge(9, &[], &[first, node]), Err(bad(1)));
+        assert_eq!(
+            graph.new_edge(9, &[first, first, node], &[node]),
+            Err(bad(2))
+        );
+        assert_eq!(graph.unify(node, first), Err(bad(0)));
+        assert_eq!(graph.unify(first, node), Err(bad(0)));
+        assert_eq!(graph.add_edge_source(edge, 7), Err(bad(0)));
+        assert_eq!(graph.add_edge_target(edge, 7), Err(bad(0)));
+        assert_eq!(graph.delete_edges(&[there, edge, edge]), Err(bad(1)));
+        assert_eq!(graph.delete_nodes(&[first, node]), Err(bad(1)));
+        assert_eq!(graph.spiderize_nodes(&[first, first, node]), Err(bad(2)));
     }
     assert_eq!(graph, whole);
 }
@@ -232,27 +256,33 @@ fn a_pending_pair_is_refused_where_none_may_be() {
     let mut p9 = p6();
     p9.unify(NodeId(0), NodeId(1)).unwrap();
     assert_eq!(p9.sizes().pairs, 1);
-    assert_eq!(p9.cycle_breaking_nodes(), Err(Refusal::PendingPair));
-    assert_eq!(p9.spiderize(), Err(Refusal::PendingPair));
-    assert_eq!(p9.spiderize_nodes(&[]), Err(Refusal::PendingPair));
-    assert_eq!(p9.no_loop(), Err(Refusal::PendingPair));
-    assert_eq!(p9.once_fed(), Err(Refusal::PendingPair));
+    assert_eq!(p9.cycle_breaking_nodes(), Err(at(Refusal::PendingPair, 0)));
+    assert_eq!(p9.spiderize(), Err(at(Refusal::PendingPair, 0)));
+    assert_eq!(p9.spiderize_nodes(&[]), Err(at(Refusal::PendingPair, 0)));
+    assert_eq!(p9.no_loop(), Err(at(Refusal::PendingPair, 0)));
+    assert_eq!(p9.once_fed(), Err(at(Refusal::PendingPair, 0)));
 }
 
 #[test]
 fn results_past_a_limit_are_refused() {
-    assert_eq!(Graph::discrete(&[7; 16_385]), Err(Refusal::ResultLimit));
-    assert_eq!(Graph::identity(&[7; 8193]), Err(Refusal::ResultLimit));
+    assert_eq!(
+        Graph::discrete(&[7; 16_385]),
+        Err(at(Refusal::ResultLimit, 0))
+    );
+    assert_eq!(
+        Graph::identity(&[7; 8193]),
+        Err(at(Refusal::ResultLimit, 0))
+    );
     let full = Graph::discrete(&[7; 16_384]).unwrap();
     let mut graph = full.clone();
-    assert_eq!(graph.new_node(7), Err(Refusal::ResultLimit));
+    assert_eq!(graph.new_node(7), Err(at(Refusal::ResultLimit, 0)));
     let operation = graph.new_operation(9, &[7], &[]);
-    assert_eq!(operation, Err(Refusal::ResultLimit));
+    assert_eq!(operation, Err(at(Refusal::ResultLimit, 0)));
     assert_eq!(graph, full);
     let long = p2().new_edge(9, &vec![NodeId(0); 70_000], &[]);
-    assert_eq!(long, Err(Refusal::ResultLimit));
+    assert_eq!(long, Err(at(Refusal::ResultLimit, 0)));
     let edges = Graph::singleton(9, &[7; 8192], &[7; 8192]).unwrap();
-    assert_eq!(edges.spiderize(), Err(Refusal::ResultLimit));
+    assert_eq!(edges.spiderize(), Err(at(Refusal::ResultLimit, 0)));
 }
 
 #[test]
@@ -354,11 +384,12 @@ fn threads_do_not_share_what_they_lend() {
 }
 
 #[test]
-fn a_refusal_says_its_number_and_what_to_do() {
-    let text =
-        "7: an id in the call is not below its count; check the list against the graph's sizes";
-    assert_eq!(Refusal::BadList.to_string(), text);
-    assert_eq!(Refusal::BadList.number(), 7);
+fn a_refusal_says_its_number_its_place_and_what_to_do() {
+    let text = "6 at byte 43: a node id is not below the node count; get the file again, undamaged";
+    assert_eq!(at(Refusal::ForeignId, 43).to_string(), text);
+    assert_eq!(Refusal::ForeignId.number(), 6);
+    let text = "7 at entry 2: an id in the call is not below its count; check it against the graph's sizes";
+    assert_eq!(at(Refusal::BadList, 2).to_string(), text);
     let text = "13: a form of version 2 whose graph fits version 1; write it by version 1";
-    assert_eq!(Refusal::OtherForm.to_string(), text);
+    assert_eq!(at(Refusal::OtherForm, 0).to_string(), text);
 }
