@@ -4,15 +4,9 @@
 
 /* What ohg_read says of a case's graph. */
 struct graph {
-    unsigned code; /* 0 where there is no graph */
+    uint64_t refused; /* the returned number, 0 where it is read or there is no graph */
     uint32_t nodes, edges, pairs;
 };
-
-static uint32_t get(const uint8_t *at, int bytes) {
-    uint32_t n = 0;
-    while (bytes--) n = n << 8 | at[bytes];
-    return n;
-}
 
 size_t fitted(uint8_t fit, size_t exact, size_t most) {
     size_t len;
@@ -56,8 +50,8 @@ static bool within(const uint8_t *sizes, uint32_t times) {
 static struct graph read_graph(struct desk *d, struct slice src) {
     struct lent l;
     uint64_t returned = follow(d, READ, src, (struct slice){0}, &l);
-    struct graph g = {.code = OHG_CODE(returned)};
-    if (g.code) return g;
+    if (OHG_CODE(returned)) return (struct graph){.refused = returned};
+    struct graph g = {0};
     const uint8_t *sizes = answered(d, &l, 0);
     bool first = ohg_width(src.at, src.len) == 2;
     if (within(sizes, 1) != first || !within(sizes, 8)) fail(functions[READ].name, "a graph has the one version that it fits");
@@ -79,19 +73,38 @@ static void check_numbers(const struct function *f, const struct graph *g, uint6
 }
 
 /* The refusals that follow from what ohg_read says of the graph. */
-static void check_code(const struct function *f, const struct graph *g, unsigned code) {
+static void check_refusal(const struct function *f, const struct graph *g, uint64_t returned) {
+    unsigned code = OHG_CODE(returned);
     if (code == OHG_SHORT_BUFFER) fail(f->name, "long buffers are not refused");
     bool reading = (code >= OHG_NO_HEADER && code <= OHG_FOREIGN_ID) || code == OHG_OTHER_FORM;
-    if (g->code ? code != g->code : reading) fail(f->name, "every function reads the graph alike");
+    if (g->refused ? returned != g->refused : reading) fail(f->name, "every function reads the graph alike");
     if (code == OHG_PENDING_PAIR && !g->pairs) fail(f->name, "8 is for a graph with a pair");
     bool needs_none = f->codes >> OHG_PENDING_PAIR & 1;
-    if (!g->code && g->pairs && needs_none && code != OHG_PENDING_PAIR && code != OHG_BAD_LIST) fail(f->name, "a pair is refused");
+    if (!g->refused && g->pairs && needs_none && code != OHG_PENDING_PAIR && code != OHG_BAD_LIST) fail(f->name, "a pair is refused");
+}
+
+/* A form is refused later or not at all once it is mended at the place: bytes too many are cut off, and a count or an id becomes 0. */
+static void check_mended(struct desk *d, struct slice src, uint64_t refused) {
+    static uint8_t mended[SRC_MOST];
+    unsigned was = OHG_CODE(refused);
+    uint32_t place = OHG_PLACE(refused), width = ohg_width(src.at, src.len);
+    bool longer = was == OHG_OTHER_LENGTH && place < src.len;
+    bool number = was == OHG_OVER_LIMIT || (was == OHG_FOREIGN_ID && get(src.at + 5, width) > 0);
+    if (!longer && !number) return;
+    struct slice form = {mended, longer ? place : src.len};
+    memcpy(mended, src.at, form.len);
+    if (number) memset(mended + place, 0, width);
+    struct lent l;
+    uint64_t returned = follow(d, READ, form, (struct slice){0}, &l);
+    unsigned is = OHG_CODE(returned);
+    bool later = is == was ? OHG_PLACE(returned) > place : is == OHG_DONE || is > was;
+    if (!later) fail(functions[READ].name, "a form that is mended at the place is refused later or not at all");
 }
 
 /* An answered form is read, and written again as the same bytes. Returns its node count. */
 static uint32_t check_form(struct desk *d, const struct function *f, struct slice form) {
     struct graph g = read_graph(d, form);
-    if (g.code) fail(f->name, "ohg_read takes the answered form");
+    if (g.refused) fail(f->name, "ohg_read takes the answered form");
     struct lent l;
     uint64_t returned = follow(d, REWRITE, form, (struct slice){0}, &l);
     if (returned != (uint64_t)form.len << 8 || memcmp(answered(d, &l, 0), form.at, form.len) != 0)
@@ -179,12 +192,13 @@ void run_case(struct desk *d, const struct call *c, struct outcome *o) {
     const struct function *f = &functions[c->function];
     struct graph g = {0};
     if (f->graph) g = read_graph(d, c->src);
+    if (g.refused) check_mended(d, c->src, g.refused);
     size_t length[LENGTHS];
     ample(c, length);
     struct lent l = lend_inputs(d, c);
     o->returned = call_once(d, c->function, &l, length, c->sides >> 3);
     take_inputs_back(&l);
-    check_code(f, &g, OHG_CODE(o->returned));
+    check_refusal(f, &g, o->returned);
     for (int i = 0; i < OUTS; i++) {
         o->len[i] = i < f->outs ? written(f, ohg_width(c->src.at, c->src.len), o->returned, i) : 0;
         if (o->len[i]) memcpy(o->bytes[i], answered(d, &l, i), o->len[i]);

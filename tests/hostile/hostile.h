@@ -54,7 +54,7 @@ struct function {
 
 extern const struct function functions[FUNCTIONS];
 
-enum { READ = 0, REWRITE = 1, DELETE_NODES = 13, SPIDERIZE_NODES = 15, NO_LOOP = 17 };
+enum { READ = 0, REWRITE = 1, DISCRETE = 3, DELETE_NODES = 13, SPIDERIZE_NODES = 15, NO_LOOP = 17 };
 
 /* ---- record.c: a call as the bytes of a file ---- */
 
@@ -68,6 +68,8 @@ struct call {
 
 enum { RECORD_HEADER = 21, RECORD_MOST = RECORD_HEADER + SRC_MOST + LISTS * LIST_MOST };
 
+/* A little-endian number. */
+uint32_t get(const uint8_t *at, int bytes);
 /* Any bytes are a call; the slices lie in them. */
 struct call decode(const uint8_t *bytes, size_t len);
 /* Returns the length, or 0 where it does not fit. */
@@ -109,6 +111,13 @@ uint64_t call_once(struct desk *d, unsigned function, struct lent *l, const size
 const uint8_t *answered(const struct desk *d, const struct lent *l, int out);
 /* How many of them are the answer, where ids have `width` bytes. */
 size_t written(const struct function *f, uint32_t width, uint64_t returned, int out);
+
+/* ---- places.c: where a refusal says that its fault is ---- */
+
+/* Whether this place may stand beside this code: it is what the code alone fixes, it lies in the form, or the fault is to be seen there. */
+bool is_place(const struct function *f, const struct lent *l, unsigned code, uint32_t place);
+/* Calls with lists whose places have 32 bits or more; no memory is used for them, since their entries are not looked at. */
+void run_long_lists(struct desk *d);
 
 /* ---- cases.c: calls that belong together ---- */
 

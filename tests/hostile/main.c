@@ -1,4 +1,5 @@
-/* hostile [--calls N] [--seed N] [--save PATH] FILE..: cases from files, cases by chance until so many calls are made, and a hundred threads at once. */
+/* hostile [--calls N] [--seed N] [--save PATH] FILE..: cases from files, cases by chance until so many calls are made, lists
+ * that no 32 bits count, and a hundred threads at once. */
 #include <stdio.h>
 #include <stdlib.h>
 #include <string.h>
@@ -70,6 +71,7 @@ int main(int count, char **words) {
     for (int file = i; file < count; file++) replay(words[file]);
     printf("%d cases from files: %llu calls\n", count - i, (unsigned long long)desk.calls);
     by_chance(calls);
+    run_long_lists(&desk);
     run_threads(&desk, maker);
     print_counts(desk.counts);
     printf("%llu passed, 0 failed\n", (unsigned long long)desk.calls);

@@ -85,12 +85,6 @@ static uint8_t *put(uint8_t *at, uint32_t n, int bytes) {
     return at;
 }
 
-static uint32_t get(const uint8_t *at, int bytes) {
-    uint32_t n = 0;
-    while (bytes--) n = n << 8 | at[bytes];
-    return n;
-}
-
 /* Few different ones, so that equal labels occur; spiders among them. */
 static uint32_t a_label(struct random *r) {
     uint64_t n = below(r, 16);

@@ -3,8 +3,10 @@
 
 #include "hostile.h"
 
-static uint32_t get4(const uint8_t *at) {
-    return at[0] | at[1] << 8 | at[2] << 16 | (uint32_t)at[3] << 24;
+uint32_t get(const uint8_t *at, int bytes) {
+    uint32_t n = 0;
+    while (bytes--) n = n << 8 | at[bytes];
+    return n;
 }
 
 static void put4(uint8_t *at, uint32_t n) {
@@ -21,10 +23,10 @@ struct call decode(const uint8_t *bytes, size_t len) {
     memcpy(header, bytes, at);
     struct call c = {.function = header[0] % FUNCTIONS, .sides = header[4]};
     memcpy(c.fit, header + 1, LENGTHS);
-    for (int i = 0; i < 2; i++) c.number[i] = get4(header + 5 + 4 * i);
+    for (int i = 0; i < 2; i++) c.number[i] = get(header + 5 + 4 * i, 4);
     for (int i = 0; i < LISTS; i++) {
         size_t left = least(len - at, LIST_MOST);
-        c.list[i] = (struct slice){(uint8_t *)bytes + at, get4(header + 13 + 4 * i) % (left + 1)};
+        c.list[i] = (struct slice){(uint8_t *)bytes + at, get(header + 13 + 4 * i, 4) % (left + 1)};
         at += c.list[i].len;
     }
     c.src = (struct slice){(uint8_t *)bytes + at, least(len - at, SRC_MOST)};
