@@ -1,4 +1,4 @@
--- Deleting never passes a limit: what is left is no larger than what was there, so neither call gives 9.
+-- Deleting and merging never pass a limit: what is left is no larger than what was there, so none of these calls gives 9.
 -- Assumes nothing.
 use mathlib.Core.Bool.{Bool, true, false, false≢true, not, cond, _&&_}
 use mathlib.Core.List.{List, [], _∷_, _++_, map}
@@ -8,12 +8,14 @@ use native.Mathlib.Omega.{arith}
 use lib.ListN.{length, length-map, length-append}
 use Rattle.le.specs.Le.{Below}
 use Rattle.graph.specs.Answer.{Answer, answered}
-use Rattle.graph.specs.Calls.{Next, idList, fit, made, onGraph, inWorkRoom, deleteEdgesStep, deleteEdgesCall, nodesDeleted, deleteNodesCall}
+use Rattle.graph.specs.Calls.{Next, idList, fit, made, onGraph, inWorkRoom, deleteEdgesStep, deleteEdgesCall, nodesDeleted, deleteNodesCall, nodesMerged, quotientCall}
 use Rattle.graph.specs.Delete.{remaining, newId, renamed, renamedEdge, deleteEdges, deleteNodes}
 use Rattle.graph.specs.Graph.{Edge, Graph, edgeEntries, largest, WellFormed}
 use Rattle.graph.specs.Lists.{joined, keep, member, among}
+use Rattle.graph.specs.Merge.{quotient}
 use Rattle.graph.specs.Versions.{StoredGraph, read, store}
 use Rattle.graph.proofs.Kept.{delete-edges-proper, delete-nodes-proper}
+use Rattle.graph.proofs.Merged.{quotient-formed}
 use Rattle.graph.proofs.Reading.{readRefusals}
 use Rattle.graph.proofs.Refuses.{Refuses, answer-by, test-by, step-when}
 use Rattle.graph.proofs.Steps.{same-answer, came}
@@ -110,6 +112,10 @@ fits : (room : ℕ) (bytes : List ℕ) → NotNine (fit room bytes)
 unfolding fit
 fits room bytes = test-by _ _ _ (λ e. omega arith) (answer-by _)
 
+merges : (g : Graph) → NotNine (quotient g)
+unfolding quotient
+merges g = test-by _ _ _ (λ e. omega arith) (answer-by _)
+
 forms : (g : Graph) → WellFormed largest g → NotNine (store g)
 forms g h = rw (store-formed g h) (answer-by _)
 
@@ -117,11 +123,20 @@ makes : (room : ℕ) (x : Next) → WellFormed largest (x .graph) → NotNine (m
 unfolding made
 makes room x h = step-when _ _ (forms (x .graph) h) (λ form p. step-when _ _ (fits room form) (λ form q. answer-by _))
 
--- whatever they are given, neither call gives 9
-module _ (b list : List ℕ) (t : Below 256 b) (room workRoom : ℕ) where
+-- whatever it is given, none of these calls gives 9
+module _ (b : List ℕ) (t : Below 256 b) where
   within : (s : StoredGraph) → read b ≡ answered s → WellFormed largest (s .graph)
   within s p = let h = read-sound b s t p in h .version .grows (s .graph) (h .formed)
 
+  pub quotient-no-9 : (room mapRoom workRoom : ℕ) → NotNine (quotientCall b room mapRoom workRoom)
+  unfolding inWorkRoom nodesMerged
+  quotient-no-9 room mapRoom workRoom =
+      test-by _ _ _ (λ e. omega arith)
+      (step-when _ _ (reads b) (λ s p. step-when _ _ (merges (s .graph))
+      (λ m q. step-when _ _ (forms (m .graph) (quotient-formed largest (s .graph) m (within s p) q))
+      (λ form r. step-when _ _ (fits room form) (λ form k. step-when _ _ (fits mapRoom _) (λ map u. answer-by _))))))
+
+module _ (b list : List ℕ) (t : Below 256 b) (room workRoom : ℕ) where
   pub delete-edges-no-9 : NotNine (deleteEdgesCall b list room workRoom)
   unfolding inWorkRoom onGraph deleteEdgesStep
   delete-edges-no-9 =
@@ -129,12 +144,12 @@ module _ (b list : List ℕ) (t : Below 256 b) (room workRoom : ℕ) where
       (step-when _ _ (reads b) (λ s p. step-when _ _ (step-when _ _ (lists s (length (s .graph .edges)) list) (λ gone q. answer-by _))
       (λ x q.
       let gone = came (idList (s .format) (length (s .graph .edges)) list) _ q in
-      makes room x (subst (λ (k : Next). WellFormed largest (k .graph)) (same-answer (gone .2)) (delete-edges-formed (gone .0) (s .graph) (within s p))))))
+      makes room x (subst (λ (k : Next). WellFormed largest (k .graph)) (same-answer (gone .2)) (delete-edges-formed (gone .0) (s .graph) (within b t s p))))))
 
   pub delete-nodes-no-9 : (mapRoom : ℕ) → NotNine (deleteNodesCall b list room mapRoom workRoom)
   unfolding inWorkRoom nodesDeleted
   delete-nodes-no-9 mapRoom =
       test-by _ _ _ (λ e. omega arith)
       (step-when _ _ (reads b) (λ s p. step-when _ _ (lists s (length (s .graph .labels)) list)
-      (λ gone q. step-when _ _ (forms (deleteNodes gone (s .graph)) (delete-nodes-formed gone (s .graph) (within s p)))
+      (λ gone q. step-when _ _ (forms (deleteNodes gone (s .graph)) (delete-nodes-formed gone (s .graph) (within b t s p)))
       (λ form r. step-when _ _ (fits room form) (λ form k. step-when _ _ (fits mapRoom _) (λ map u. answer-by _))))))

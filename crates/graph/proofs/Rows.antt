@@ -48,7 +48,7 @@ length-edge-rows (e ∷ es) =
 pub length-body : (g : Graph) → length (body g) ≡ 2 * length (g .edges) + ports g + (length (g .sources) + (length (g .targets) + 2 * length (g .pairs)))
 length-body g = simp (length-append, length-edge-rows, length-flat)
 
-edge-rows-below : (n : ℕ) (es : List Edge) → length (edgeEntries es) < n → Below n (edgeEntries es) → Below n (joined edgeRow es)
+pub edge-rows-below : (n : ℕ) (es : List Edge) → length (edgeEntries es) < n → Below n (edgeEntries es) → Below n (joined edgeRow es)
 edge-rows-below n [] l h = tt
 edge-rows-below n (e ∷ es) l h =
     let here = e .sources ++ e .targets in

@@ -55,3 +55,11 @@ full1 = 79 ∷ 72 ∷ 71 ∷ 1 ∷ 0 ∷ 0 ∷ 8 ∷ replicate 8200 0
 -- the same nodes and one of label 9, in version 2
 abbrev pub full1And9 : List ℕ
 full1And9 = 79 ∷ 72 ∷ 71 ∷ 2 ∷ 0 ∷ 1 ∷ 8 ∷ replicate 8210 0 ++ (9 ∷ 0 ∷ 0 ∷ 0 ∷ [])
+
+-- 02, T-01: one node of label 7, and 1,025 times the pair of it with itself, which only version 2 holds
+abbrev pub pairedForm : List ℕ
+pairedForm = 79 ∷ 72 ∷ 71 ∷ 2 ∷ 0 ∷ 1 ∷ replicate 15 0 ++ (1 ∷ 4 ∷ 0 ∷ 0 ∷ 7 ∷ 0 ∷ 0 ∷ 0 ∷ replicate 8200 0)
+
+-- what it is merged to: the node alone
+abbrev pub oneForm : List ℕ
+oneForm = 79 ∷ 72 ∷ 71 ∷ 1 ∷ 0 ∷ 1 ∷ replicate 9 0 ++ (7 ∷ 0 ∷ 0 ∷ 0 ∷ [])

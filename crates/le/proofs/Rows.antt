@@ -42,6 +42,10 @@ holds-less {b} {r} h m l = record { wide = h .wide; inside = omega (arith, h .in
 pub holds-same : {b : List ℕ} {r : Row} {n : ℕ} → Holds b r n → (c : List ℕ) → length c ≡ length b → Holds c r n
 holds-same h c e = record { wide = h .wide; inside = omega (arith, h .inside) }
 
+-- the same of a row that is known
+pub at-row : {b : List ℕ} {r s : Row} {n : ℕ} → r ≡ s → Holds b s n → Holds b r n
+at-row {b} {n = n} e h = subst (λ (r : Row). Holds b r n) (sym e) h
+
 -- there are at most half as many numbers as bytes
 pub holds-index : {b : List ℕ} {r : Row} {n : ℕ} → Holds b r n → 2 * n ≤ length b
 holds-index {b} {r} {n} h =
@@ -55,6 +59,10 @@ pub numbers-append : (w m n : ℕ) (b : List ℕ) → numbers w (m + n) b ≡ nu
 numbers-append w zero n b = rw (zero-mul, zero-add)
 numbers-append w (suc m) n b =
     rw (suc-add, suc-mul, add-comm (m * w) w, ← drop-drop (m * w) w b) (ap (λ (r : List ℕ). number (take w b) ∷ r) (numbers-append w m n (drop w b)))
+
+-- what stands in a part of a row that is known
+pub at-span : {r row : Row} (b : List ℕ) (k n : ℕ) {xs : List ℕ} → r ≡ row → span b row k n ≡ xs → span b r k n ≡ xs
+at-span b k n e is = ap (λ (r : Row). span b r k n) e ∙ is
 
 module _ (b : List ℕ) (r : Row) where
   pub length-span : (k n : ℕ) → length (span b r k n) ≡ n
