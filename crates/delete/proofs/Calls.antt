@@ -12,17 +12,17 @@ use Rattle.le.specs.Le.{row}
 use Rattle.le.specs.Rows.{placeIn, puts}
 use Rattle.le.proofs.Numbers.{length-row}
 use Rattle.graph.specs.Answer as answer
-use Rattle.graph.specs.Answer.{Answer, refused, answered, Result, writing, lay, _else_, _>>=_, _>>_, refusal}
-use Rattle.graph.specs.Calls.{idList, fit, made, deleteEdgesStep, nodesDeleted, roomDeleteEdges, roomDeleteNodes}
+use Rattle.graph.specs.Answer.{refused, answered, writing, lay, _else_, refusal}
+use Rattle.graph.specs.Calls.{idList, made, deleteEdgesStep, nodesDeleted, roomDeleteEdges, roomDeleteNodes}
 use Rattle.graph.specs.Delete.{remaining, deleteEdges, withoutNodes, deleteNodes, whereTo, nodeMap}
 use Rattle.graph.specs.Build.{withEdges}
 use Rattle.graph.specs.Graph.{Graph}
 use Rattle.graph.specs.Lists.{among, range}
-use Rattle.graph.specs.Versions.{read, store, fitting}
+use Rattle.graph.specs.Versions.{read, fitting}
 use Rattle.graph.specs.Form.{encode}
 use Rattle.graph.proofs.Lists.{length-range}
 use Rattle.graph.proofs.Places.{sets-lay}
-use Rattle.graph.proofs.Steps.{never, same-answer, same-refusal, came, stops, goes}
+use Rattle.graph.proofs.Steps.{stops, goes}
 use Rattle.form.specs.Form.{meantBy, tested}
 use Rattle.form.specs.Stored.{graphOf, formatOf, Stored}
 use Rattle.form.specs.declared.Sizes.{Sizes}
@@ -30,9 +30,9 @@ use Rattle.form.specs.declared.Outcome.the-variants as call
 use Rattle.form.specs.declared.Refusal.{Refusal}
 use Rattle.form.specs.declared.Step.the-variants as step
 use Rattle.form.specs.declared.Step.{Step}
-use Rattle.form.proofs.Answers.{test-refused, test-answered}
 use Rattle.form.proofs.Stored.{stored-rows, nodes-are, edges-are}
 use Rattle.write.proofs.Calls.{next}
+use Rattle.write.proofs.Maps.{withMap, map-refused, map-short, map-fits}
 use Rattle.delete.specs.Marks.{marked, unmarkedEdges, mapOf, placesOf}
 
 -- ---- deleting edges
@@ -64,34 +64,6 @@ pub nodes-deleted : {goes : ℕ → Bool} (list : List ℕ) (g : Graph) → goes
 unfolding deleteNodes
 nodes-deleted list g e = ap (λ (goes : ℕ → Bool). withoutNodes goes g) e
 
--- two steps that are also another call's
-module _ {A B C D : Type 0} (m : Answer A) (next : A → Answer B) (f : B → C) (then : B → Answer D) where
-  two-stop : (r : answer.Refusal) → (m >>= λ a. next a >>= λ b. answered (f b)) ≡ refused r → (m >>= λ a. next a >>= then) ≡ refused r
-  unfolding _>>=_
-  two-stop r e = outer m e
-    where
-      inner : (k : Answer B) → (k >>= λ b. answered (f b)) ≡ refused r → (k >>= then) ≡ refused r
-      inner (refused x) e = ap refused (same-refusal e)
-      inner (answered b) e = absurd (never (sym e))
-
-      outer : (k : Answer A) → (k >>= λ a. next a >>= λ b. answered (f b)) ≡ refused r → (k >>= λ a. next a >>= then) ≡ refused r
-      outer (refused x) e = ap refused (same-refusal e)
-      outer (answered a) e = inner (next a) e
-
-  two-go : (c : C) → (m >>= λ a. next a >>= λ b. answered (f b)) ≡ answered c → (b : B) × (f b ≡ c) × ((m >>= λ a. next a >>= then) ≡ then b)
-  two-go c e =
-      let p = came m (λ a. next a >>= λ b. answered (f b)) e in
-      let q = came (next (p .0)) (λ b. answered (f b)) (p .2) in
-      (q .0, same-answer (q .2), goes (λ a. next a >>= then) (p .1) ∙ goes then (q .1))
-
-fit-stop : (room : ℕ) (bytes : List ℕ) (r : answer.Refusal) → (leb (length bytes) room else refusal 10) ≡ refused r → fit room bytes ≡ refused r
-unfolding fit _>>_
-fit-stop room bytes r e = rw e
-
-fit-go : (room : ℕ) (bytes : List ℕ) (x : Unit {0}) → (leb (length bytes) room else refusal 10) ≡ answered x → fit room bytes ≡ answered bytes
-unfolding fit _>>_
-fit-go room bytes x e = rw e
-
 module _ (b ids : List ℕ) (room mapRoom : ℕ) where
   pub nodes-unread : (r : answer.Refusal) → read b ≡ refused r → nodesDeleted b ids room mapRoom ≡ refused r
   unfolding nodesDeleted
@@ -109,20 +81,15 @@ module _ (b ids : List ℕ) (room mapRoom : ℕ) where
       abbrev mapped : List ℕ
       mapped = row (formatOf b .width) (nodeMap (formatOf b) list (graphOf b))
 
-      -- after the list: the form, and then the map
-      abbrev onward : List ℕ → Answer Result
-      onward form = fit mapRoom mapped >>= λ map. answered (record { a = length form; b = length (graphOf b .labels); bytes = form; map = map })
-
       abbrev graph : Graph
       graph = deleteNodes list (graphOf b)
 
-      reached : nodesDeleted b ids room mapRoom ≡ (store graph >>= λ form. fit room form >>= onward)
+      reached : nodesDeleted b ids room mapRoom ≡ withMap room mapRoom graph mapped (length (graphOf b .labels))
       unfolding nodesDeleted
       reached = goes _ (s .read-as) ∙ goes _ (same-list ∙ is)
 
       pub nodes-refused : (r : answer.Refusal) → made room (record { graph = graph; id = 0 }) ≡ refused r → nodesDeleted b ids room mapRoom ≡ refused r
-      unfolding made
-      nodes-refused r e = reached ∙ two-stop (store graph) (fit room) (λ (form : List ℕ). writing form 0) onward r e
+      nodes-refused r e = reached ∙ map-refused room mapRoom graph mapped (length (graphOf b .labels)) r e
 
       map-long : length mapped ≡ z .nodes * z .width
       unfolding nodeMap
@@ -135,21 +102,12 @@ module _ (b ids : List ℕ) (room mapRoom : ℕ) where
       form = encode (fitting graph) graph
 
       module _ (makes : made room (record { graph = graph; id = 0 }) ≡ answered (writing form 0)) (r : Step) (fits : r ≡ tested (leb (z .nodes * z .width) mapRoom else refusal 10)) where
-        formed : nodesDeleted b ids room mapRoom ≡ onward form
-        unfolding made
-        formed =
-            let t = two-go (store graph) (fit room) (λ (form : List ℕ). writing form 0) onward (writing form 0) makes in
-            reached ∙ t .2 ∙ ap onward (ap (λ (m : Result). m .bytes) (t .1))
-
         pub nodes-no-map : (q : Refusal) → r ≡ step.Refused q → nodesDeleted b ids room mapRoom ≡ refused (meantBy q)
-        nodes-no-map q e =
-            formed ∙ stops _ (fit-stop mapRoom mapped (meantBy q) (ap (λ (n : ℕ). leb n mapRoom else refusal 10) map-long ∙ test-refused _ r fits q e))
+        nodes-no-map q e = reached ∙ map-short room mapRoom graph mapped (length (graphOf b .labels)) makes map-long r fits q e
 
         pub nodes-done : (n : ℕ) → r ≡ step.Number n → nodesDeleted b ids room mapRoom
             ≡ answered (record { a = length form; b = length (graphOf b .labels); bytes = form; map = mapped })
-        nodes-done n e =
-            let t = test-answered _ r fits n e in
-            formed ∙ goes _ (fit-go mapRoom mapped (t .0) (ap (λ (n : ℕ). leb n mapRoom else refusal 10) map-long ∙ t .1))
+        nodes-done n e = reached ∙ map-fits room mapRoom graph mapped (length (graphOf b .labels)) makes map-long r fits n e
 
       -- the map that was put is the answered one
       pub map-put : (room old : List ℕ) → marked room (z .nodes) ≡ among list → z .nodes * z .width ≤ length old

@@ -11,7 +11,8 @@ use Rattle.graph.specs.Delete.{renamed}
 use Rattle.le.specs.Le.{Below}
 use Rattle.le.specs.Rows.{span}
 use Rattle.le.proofs.Rows.{holds-less, holds-index}
-use Rattle.delete.proofs.Grows.{entry-below, one-stays, count-more, ids-grow}
+use Rattle.write.proofs.Grows.{entry-below, count-more}
+use Rattle.delete.proofs.Grows.{one-stays, ids-grow}
 use borrow.Author.Needs.{needs}
 use native.Mathlib.Omega.{arith}
 use Rattle.delete.proofs.ids_left.Statement.{statement}

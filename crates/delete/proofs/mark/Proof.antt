@@ -10,7 +10,7 @@ use Rattle.delete.specs.Marks.{marked}
 use Rattle.graph.specs.Lists.{among}
 use Rattle.le.specs.Rows.{entry, span}
 use Rattle.le.proofs.Rows.{holds-less, span-next}
-use Rattle.delete.proofs.Grows.{entry-below}
+use Rattle.write.proofs.Grows.{entry-below}
 use Rattle.delete.proofs.Marks.{cleared, marked-more}
 use borrow.Author.Needs.{needs}
 use native.Mathlib.Omega.{arith}

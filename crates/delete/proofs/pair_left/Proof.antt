@@ -12,7 +12,8 @@ use Rattle.graph.specs.Lists.{paired}
 use Rattle.le.specs.Le.{Below}
 use Rattle.le.specs.Rows.{span}
 use Rattle.le.proofs.Rows.{holds-less, holds-index}
-use Rattle.delete.proofs.Grows.{span-two, pair-stays}
+use Rattle.write.proofs.Grows.{span-two}
+use Rattle.delete.proofs.Grows.{pair-stays}
 use native.Mathlib.Omega.{arith}
 use Rattle.delete.proofs.pair_left.Statement.{statement}
 use Rattle.delete.proofs.pair_left.Tie as tie

@@ -11,7 +11,8 @@ use Rattle.graph.specs.Lists.{paired}
 use Rattle.le.specs.Le.{Below}
 use Rattle.le.specs.Rows.{span}
 use Rattle.le.proofs.Rows.{holds-less, holds-index}
-use Rattle.delete.proofs.Grows.{part-below, count-more, pairs-grow}
+use Rattle.write.proofs.Grows.{part-below, count-more}
+use Rattle.delete.proofs.Grows.{pairs-grow}
 use borrow.Author.Needs.{needs}
 use native.Mathlib.Omega.{arith}
 use Rattle.delete.proofs.pairs_left.Statement.{statement}

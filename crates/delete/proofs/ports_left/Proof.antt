@@ -13,8 +13,9 @@ use Rattle.graph.specs.Form.{edgeStart}
 use Rattle.graph.specs.Graph.{Edge, edgeEntries}
 use Rattle.form.proofs.Stored.{stored-rows}
 use Rattle.le.proofs.Rows.{holds-index}
-use Rattle.delete.proofs.Edges.{edgeNo, Met, met, edge-held, ids-below, all-edges, edge-less}
-use Rattle.delete.proofs.Grows.{renamed-append, count-more, moved-grow}
+use Rattle.write.proofs.Edges.{edgeNo, Met, met, edge-held, ids-below, all-edges, edge-less}
+use Rattle.write.proofs.Grows.{count-more}
+use Rattle.delete.proofs.Grows.{renamed-append, moved-grow}
 use borrow.Author.Needs.{needs}
 use native.Mathlib.Omega.{arith}
 use Rattle.delete.proofs.ports_left.Statement.{statement}

@@ -12,8 +12,9 @@ use Rattle.graph.specs.Graph.{Edge, edgeEntries}
 use Rattle.form.proofs.Stored.{stored-rows}
 use Rattle.graph.specs.Delete.{remaining}
 use Rattle.le.proofs.Rows.{holds-index}
-use Rattle.delete.proofs.Edges.{Met, met, edge-held, all-edges, edge-less}
-use Rattle.delete.proofs.Grows.{unless-long, count-more, edges-grow}
+use Rattle.write.proofs.Edges.{Met, met, edge-held, all-edges, edge-less}
+use Rattle.write.proofs.Grows.{count-more}
+use Rattle.delete.proofs.Grows.{unless-long, edges-grow}
 use borrow.Author.Needs.{needs}
 use native.Mathlib.Omega.{arith}
 use Rattle.delete.proofs.ports_of_left.Statement.{statement}

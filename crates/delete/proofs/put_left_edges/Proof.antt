@@ -16,8 +16,9 @@ use Rattle.write.specs.Write.{Put}
 use Rattle.form.proofs.Stored.{stored-rows}
 use Rattle.le.proofs.Rows.{holds-less, holds-index}
 use Rattle.write.proofs.Results.{put-none}
-use Rattle.delete.proofs.Edges.{Met, met, edge-held, all-edges, all-fits, edge-less}
-use Rattle.delete.proofs.Grows.{put-length, edges-grow, unless-long, put-unless, put-fits, put-more}
+use Rattle.write.proofs.Edges.{Met, met, edge-held, all-edges, all-fits, edge-less}
+use Rattle.write.proofs.Grows.{put-length, put-fits, put-more}
+use Rattle.delete.proofs.Grows.{edges-grow, unless-long, put-unless}
 use borrow.Author.Needs.{needs}
 use native.Mathlib.Omega.{arith}
 use Rattle.delete.proofs.put_left_edges.Statement.{statement}

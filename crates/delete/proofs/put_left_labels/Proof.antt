@@ -10,7 +10,7 @@ use Rattle.le.specs.Rows.{Holds, span}
 use Rattle.write.specs.Write.{Put}
 use Rattle.le.proofs.Rows.{holds-less, holds-index}
 use Rattle.write.proofs.Results.{put-none}
-use Rattle.delete.proofs.Grows.{put-length, labels-grow, put-fits, put-more}
+use Rattle.write.proofs.Grows.{put-length, labels-grow, put-fits, put-more}
 use borrow.Author.Needs.{needs}
 use native.Mathlib.Omega.{arith}
 use Rattle.delete.proofs.put_left_labels.Statement.{statement}

@@ -13,7 +13,8 @@ use Rattle.write.specs.Write.{Put}
 use Rattle.graph.proofs.Kept.{new-id-le}
 use Rattle.le.proofs.Rows.{holds-less, holds-same}
 use Rattle.write.proofs.Results.{put-none}
-use Rattle.delete.proofs.Grows.{new-id-more, put-length, put-more, places-grow}
+use Rattle.write.proofs.Grows.{put-length, put-more}
+use Rattle.delete.proofs.Grows.{new-id-more, places-grow}
 use borrow.Author.Needs.{needs}
 use native.Mathlib.Omega.{arith}
 use Rattle.delete.proofs.put_map.Statement.{statement}

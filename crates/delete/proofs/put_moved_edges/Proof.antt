@@ -17,8 +17,10 @@ use Rattle.le.specs.declared.Row.{Row}
 use Rattle.write.specs.Write.{Put}
 use Rattle.form.proofs.Stored.{stored-rows}
 use Rattle.write.proofs.Results.{put-none}
-use Rattle.delete.proofs.Edges.{Met, met, edge-held, all-edges, all-fits, edge-less, same-row}
-use Rattle.delete.proofs.Grows.{put-length, moved-grow, put-fits, put-more}
+use Rattle.write.proofs.Edges.{Met, met, edge-held, all-edges, all-fits, edge-less}
+use Rattle.delete.proofs.Edges.{same-row}
+use Rattle.write.proofs.Grows.{put-length, put-fits, put-more}
+use Rattle.delete.proofs.Grows.{moved-grow}
 use borrow.Author.Needs.{needs}
 use native.Mathlib.Omega.{arith}
 use Rattle.delete.proofs.put_moved_edges.Statement.{statement}

@@ -14,7 +14,8 @@ use Rattle.le.specs.declared.Row.{Row}
 use Rattle.write.specs.Write.{Put}
 use Rattle.le.proofs.Rows.{holds-less, holds-index}
 use Rattle.write.proofs.Results.{put-none}
-use Rattle.delete.proofs.Grows.{entry-below, ids-grow, put-length, put-fits, put-more}
+use Rattle.write.proofs.Grows.{entry-below, put-length, put-fits, put-more}
+use Rattle.delete.proofs.Grows.{ids-grow}
 use borrow.Author.Needs.{needs}
 use native.Mathlib.Omega.{arith}
 use Rattle.delete.proofs.put_moved_ids.Statement.{statement}

@@ -12,11 +12,11 @@ use Rattle.graph.specs.Lists.{paired, flat}
 use Rattle.le.specs.Le.{Below}
 use Rattle.le.specs.Rows.{Holds, entry, span, puts}
 use Rattle.le.specs.declared.Row.{Row}
-use Rattle.le.proofs.Rows.{holds-less, holds-index}
+use Rattle.le.proofs.Rows.{holds-less, holds-index, at-row}
 use Rattle.write.proofs.Results.{put-none}
-use Rattle.delete.proofs.Grows.{span-two, pair-moved}
+use Rattle.write.proofs.Grows.{span-two}
+use Rattle.delete.proofs.Grows.{pair-moved}
 use Rattle.delete.proofs.Marks.{placed, unplaced}
-use Rattle.delete.proofs.Parts.{at-row}
 use borrow.Author.Needs.{needs}
 use native.Mathlib.Omega.{arith}
 use Rattle.delete.proofs.put_moved_pair.Statement.{statement}

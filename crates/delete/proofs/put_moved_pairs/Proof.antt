@@ -12,7 +12,8 @@ use Rattle.le.specs.Rows.{span}
 use Rattle.write.specs.Write.{Put}
 use Rattle.le.proofs.Rows.{holds-less, holds-index}
 use Rattle.write.proofs.Results.{put-none}
-use Rattle.delete.proofs.Grows.{part-below, flat-grow, put-length, put-fits, put-more}
+use Rattle.write.proofs.Grows.{part-below, put-length, put-fits, put-more}
+use Rattle.delete.proofs.Grows.{flat-grow}
 use borrow.Author.Needs.{needs}
 use native.Mathlib.Omega.{arith}
 use Rattle.delete.proofs.put_moved_pairs.Statement.{statement}

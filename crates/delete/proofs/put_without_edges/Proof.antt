@@ -18,10 +18,11 @@ use Rattle.graph.specs.Versions.{fitting}
 use Rattle.le.specs.Rows.{Holds, span}
 use Rattle.write.specs.Write.{headed, Put}
 use Rattle.form.proofs.Stored.{stored-rows}
-use Rattle.le.proofs.Rows.{holds-less, holds-same, length-span}
+use Rattle.le.proofs.Rows.{holds-less, holds-same, length-span, at-row}
 use Rattle.write.proofs.Results.{put-then, length-headed}
-use Rattle.delete.proofs.Grows.{put-length}
-use Rattle.delete.proofs.Parts.{at-row, copied, drawn-by, labels-room, body-room, left-labels, lists-there}
+use Rattle.write.proofs.Grows.{put-length}
+use Rattle.write.proofs.Parts.{copied, drawn-by, labels-room, body-room, lists-there}
+use Rattle.delete.proofs.Parts.{left-labels}
 use native.Mathlib.Omega.{arith}
 use Rattle.delete.proofs.put_without_edges.Statement.{statement}
 use Rattle.delete.proofs.put_without_edges.Tie as tie

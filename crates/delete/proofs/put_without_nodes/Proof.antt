@@ -18,10 +18,11 @@ use Rattle.le.specs.Rows.{Holds, span}
 use Rattle.write.specs.Write.{headed, Put}
 use Rattle.form.proofs.Stored.{stored-rows, stored-known}
 use Rattle.le.proofs.Numbers.{below-append}
-use Rattle.le.proofs.Rows.{holds-less, holds-same, length-span}
+use Rattle.le.proofs.Rows.{holds-less, holds-same, length-span, at-row}
 use Rattle.write.proofs.Results.{put-then, length-headed}
-use Rattle.delete.proofs.Grows.{put-length}
-use Rattle.delete.proofs.Parts.{at-row, span-known, copied, drawn-by, labels-room, body-room, edge-labels-kept, ids-there, ids-moved, pairs-there, pairs-moved}
+use Rattle.write.proofs.Grows.{put-length}
+use Rattle.write.proofs.Parts.{span-known, copied, drawn-by, labels-room, body-room, ids-there}
+use Rattle.delete.proofs.Parts.{edge-labels-kept, ids-moved, pairs-there, pairs-moved}
 use native.Mathlib.Omega.{arith}
 use Rattle.delete.proofs.put_without_nodes.Statement.{statement}
 use Rattle.delete.proofs.put_without_nodes.Tie as tie

@@ -6,7 +6,7 @@ use Rattle.delete.specs.Marks.{marked}
 use Rattle.form.specs.Stored.{graphOf}
 use Rattle.form.specs.declared.Sizes.{Sizes}
 use Rattle.write.specs.Write.{countedAs, fitted}
-use Rattle.delete.proofs.Grows.{left-count}
+use Rattle.write.proofs.Grows.{left-count}
 use borrow.Author.Needs.{needs}
 use Rattle.delete.proofs.without_edges.Statement.{statement}
 use Rattle.delete.proofs.without_edges.Tie as tie

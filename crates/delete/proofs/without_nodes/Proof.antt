@@ -12,9 +12,10 @@ use Rattle.form.specs.declared.Sizes.{Sizes}
 use Rattle.graph.specs.Delete.{renamed, renamedEdge}
 use Rattle.write.specs.Write.{countedAs, fitted}
 use Rattle.form.proofs.Stored.{stored-rows, stored-known}
-use Rattle.le.proofs.Rows.{holds-less}
-use Rattle.delete.proofs.Grows.{left-count}
-use Rattle.delete.proofs.Parts.{at-row, at-span, span-known, pairs-moved}
+use Rattle.le.proofs.Rows.{holds-less, at-row, at-span}
+use Rattle.write.proofs.Grows.{left-count}
+use Rattle.write.proofs.Parts.{span-known}
+use Rattle.delete.proofs.Parts.{pairs-moved}
 use borrow.Author.Needs.{needs}
 use native.Mathlib.Omega.{arith}
 use Rattle.delete.proofs.without_nodes.Statement.{statement}

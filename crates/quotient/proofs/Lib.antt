@@ -1,0 +1,4 @@
+pub mod Renamed
+pub mod Labels
+pub mod Parts
+pub mod Calls
