@@ -14,20 +14,13 @@ use borrow.Author.Tests.{eqb-true, eqb-false, lt-ltb, ltb-true, ltb-false}
 use Rattle.graph.specs.Lists.{among, keep, range}
 use Rattle.le.specs.Le.{Below, Apart}
 use Rattle.le.specs.Rows.{Holds, entry, span, puts}
-use Rattle.le.specs.declared.Row.{Row}
 use Rattle.links.specs.Links.{cellRow, cellCount, cells, unlisted, isListed, Heads}
 use Rattle.graph.proofs.Spiders.{keep-append}
 use Rattle.le.proofs.Frames.{outside-sets}
 use Rattle.le.proofs.Numbers.{below-at}
-use Rattle.le.proofs.Rows.{length-span, span-at, span-next, span-below, span-set, length-puts}
+use Rattle.le.proofs.Rows.{length-span, span-at, span-below, span-set, length-puts}
 use Rattle.le.proofs.Tables.{getD-sets}
 use Rattle.graph.proofs.Lists.{range-add}
-
--- ---- numbers of a row
-
--- a number of a part whose numbers are below a bound
-pub entry-below : (b : List ℕ) (r : Row) (k n bound : ℕ) → Below bound (span b r k n) → (j : ℕ) → j < n → entry b r (k + j) < bound
-entry-below b r k n bound h j l = rw (← span-at b r k n j l) (below-at bound (span b r k n) j h (rw (length-span b r k n) l))
 
 -- ---- cells
 
@@ -94,13 +87,12 @@ among-snoc (y ∷ ids) id x = rw (among-snoc ids id x) (swap (eqb x y) (eqb x id
     swap true false c = refl
     swap false b c = refl
 
-pub list-more : (nodes : ℕ) (W W′ b : List ℕ) (r : Row) (j id : ℕ) → id ≡ entry b r j → id < nodes → nodes * 4 ≤ length W → W′ ≡ sets W (id * 4) (replicate 4 0)
-    → Heads nodes W (among (span b r 0 j)) → Heads nodes W′ (among (span b r 0 (j + 1)))
-list-more nodes W W′ b r j id e known fits is h = record {
+pub list-more : (nodes : ℕ) (W W′ ids : List ℕ) (id : ℕ) → id < nodes → nodes * 4 ≤ length W → W′ ≡ sets W (id * 4) (replicate 4 0)
+    → Heads nodes W (among ids) → Heads nodes W′ (among (ids ++ (id ∷ [])))
+list-more nodes W W′ ids id known fits is h = record {
   each = λ x k l l′.
-      let ids : span b r 0 (j + 1) ≡ span b r 0 j ++ (id ∷ []) = span-next b r 0 j ∙ ap (λ (v : ℕ). span b r 0 j ++ (v ∷ [])) (ap (entry b r) (zero-add j) ∙ sym e) in
-      ap (λ (u : List ℕ). getD u (x * 4 + k) 0) is ∙ one-listed W nodes id (among (span b r 0 j)) known fits h .each x k l l′
-      ∙ ap (λ (c : Bool). cond c 0 unlisted) (sym (ap (λ (l : List ℕ). among l x) ids ∙ among-snoc (span b r 0 j) id x));
+      ap (λ (u : List ℕ). getD u (x * 4 + k) 0) is ∙ one-listed W nodes id (among ids) known fits h .each x k l l′
+      ∙ ap (λ (c : Bool). cond c 0 unlisted) (sym (among-snoc ids id x));
 }
 
 -- the test that a table makes is the listing that it was made for

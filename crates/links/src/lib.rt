@@ -82,15 +82,12 @@ pub fn list_all(room: &mut [u8], nodes: usize)
     fill(room, 0, nodes * 4, 0);
 }
 
-// The nodes of the first n ids of a row are listed.
-pub fn list_ids(room: &mut [u8], ids: &[u8], r: Row, n: usize, nodes: usize)
-    requires { ⌜ Holds (now ids) r n × Below nodes (span (now ids) r 0 n) × (nodes * 4 ≤ cellCount (now room)) ⌝ }
-    ensures { λ _. ⌜ (Heads nodes (cells (now (room .entry))) (λ x. false) → Heads nodes (cells (now (room .exit))) (among (span (now (ids .entry)) r 0 n))) ⌝ }
+// One node more is listed.
+pub fn list_id(room: &mut [u8], id: usize, nodes: usize)
+    requires { ⌜ (id < nodes) × (nodes * 4 ≤ cellCount (now room)) ⌝ }
+    ensures { λ _. ⌜ cells (now (room .exit)) ≡ sets (cells (now (room .entry))) (id * 4) (replicate 4 0) ⌝ }
 {
-    for j in 0..n {
-        let id = le::number(ids, r, j);
-        fill(room, id * 4, 4, 0);
-    }
+    fill(room, id * 4, 4, 0);
 }
 
 // Whether a node is listed.

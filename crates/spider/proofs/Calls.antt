@@ -7,7 +7,7 @@ use Prim.Native.Nat.{ℕ, zero, suc, _+_, _≤_, _<_}
 use native.Mathlib.Omega.{arith}
 use lib.Dec.{eqb, leb}
 use lib.ListN.{length}
-use borrow.Author.Tests.{eqb-true, eqb-false, ne-eqb}
+use borrow.Author.Tests.{eqb-false, ne-eqb}
 use Rattle.form.specs.Form.{tested, reading, refusalIn, refusalRead, meantBy, Gives}
 use Rattle.form.specs.Stored.{graphOf, formatOf, Stored}
 use Rattle.form.specs.declared.Outcome.the-variants as call
@@ -17,18 +17,14 @@ use Rattle.form.specs.declared.Refusal.{Refusal}
 use Rattle.form.specs.declared.Sizes.{Sizes}
 use Rattle.form.specs.declared.Step.the-variants as step
 use Rattle.form.specs.declared.Step.{Step}
-use Rattle.form.proofs.Answers.{gives-refused, test-answered, work-short, work-enough, room-enough}
+use Rattle.form.proofs.Answers.{gives-refused, work-short, work-enough, room-enough}
 use Rattle.form.proofs.Stored.{unread, stored}
 use Rattle.graph.specs.Answer.{Answer, Result, answered, refused, _else_, refusal}
-use Rattle.graph.specs.Answer as answer
-use Rattle.graph.specs.Calls.{Next, idList, unpaired, inWorkRoom, onGraph, roomSpiderize, spiderizeStep, spiderizeAllStep}
+use Rattle.graph.specs.Calls.{Next, inWorkRoom, onGraph, roomSpiderize}
 use Rattle.graph.specs.Graph.{Graph, Format}
 use Rattle.graph.specs.Lists.{among, member, range}
-use Rattle.graph.specs.Spider.{spiderizedAt, spiderize}
 use Rattle.graph.specs.Versions.{read}
 use Rattle.graph.proofs.Kept.{below-range}
-use Rattle.graph.proofs.Steps.{passed, stops, goes}
-use Rattle.graph.proofs.Verdicts.{unpaired-0}
 use Rattle.le.specs.Le.{Below}
 use Rattle.links.specs.Links.{unlisted, isListed, Heads, Linked}
 use Rattle.links.proofs.Cells.{listing}
@@ -47,7 +43,6 @@ pub record Opened (b : List ℕ) (lent : ℕ) (z : Sizes) : Type 0 where
   pub roomy : roomSpiderize ≤ lent
   pub form : Stored b z
   pub nodes : z .nodes ≡ length (graphOf b .labels)
-  pub pairs : length (graphOf b .pairs) ≡ z .pairs
 
 module _ (b : List ℕ) (lent : ℕ) {w : Step} (tests : w ≡ tested (leb roomSpiderize lent else refusal 10)) where
   pub opened : {n : ℕ} → w ≡ step.Number n → {r : Reading} → r ≡ reading (read b) → Below 256 b → {z : Sizes} → r ≡ reads.Sized z → Opened b lent z
@@ -58,7 +53,6 @@ module _ (b : List ℕ) (lent : ℕ) {w : Step} (tests : w ≡ tested (leb roomS
         roomy = room-enough roomSpiderize lent w tests n e;
         form = s;
         nodes = ap (λ (y : Sizes). y .nodes) (s .sizes);
-        pairs = sym (ap (λ (y : Sizes). y .pairs) (s .sizes));
       }
 
   -- the ways out before that, and after
@@ -73,36 +67,6 @@ module _ (b : List ℕ) (lent : ℕ) {w : Step} (tests : w ≡ tested (leb roomS
 pub stopped : {b : List ℕ} {lent : ℕ} {z : Sizes} → Opened b lent z → (next : Format → Graph → Answer Next) (old : List ℕ) {s : Step} {q x : Refusal} → s ≡ step.Refused x → q ≡ refusalIn s
     → next (formatOf b) (graphOf b) ≡ refused (meantBy x) → Gives (inWorkRoom roomSpiderize lent (onGraph b (length old) next)) (call.Refused q) old old
 stopped {b} o next old {x = x} e is h = passes (is ∙ ap refusalIn e) (gives-by (o .enough (onGraph b (length old) next)) (graph-stopped b next old (o .form) x h))
-
-pub none-paired : (g : Graph) (r : Step) → r ≡ tested (unpaired g) → (n : ℕ) → r ≡ step.Number n → length (g .pairs) ≡ 0
-unfolding unpaired
-none-paired g r is n e = eqb-true (length (g .pairs)) 0 (passed _ _ _ (test-answered (unpaired g) r is n e .1) .0)
-
--- ---- the steps
-
-module _ (f : Format) (ids : List ℕ) (g : Graph) where
-  pub step-7 : (x : answer.Refusal) → idList f (length (g .labels)) ids ≡ refused x → spiderizeStep f ids g ≡ refused x
-  unfolding spiderizeStep
-  step-7 x e = stops _ e
-
-  module _ (list : List ℕ) (is : idList f (length (g .labels)) ids ≡ answered list) where
-    pub step-8 : (x : answer.Refusal) → unpaired g ≡ refused x → spiderizeStep f ids g ≡ refused x
-    unfolding spiderizeStep
-    step-8 x e = goes _ is ∙ stops _ e
-
-    -- listed in a table or in a list is the same
-    pub step-0 : length (g .pairs) ≡ 0 → (m : ℕ → Bool) → m ≡ among list → spiderizeStep f ids g ≡ answered (record { graph = spiderizedAt m g; id = 0 })
-    unfolding spiderizeStep spiderize
-    step-0 e m same = goes _ is ∙ goes _ (unpaired-0 g e) ∙ ap (λ (t : ℕ → Bool). answered (record { graph = spiderizedAt t g; id = 0 })) (sym same)
-
-module _ (g : Graph) where
-  pub all-8 : (x : answer.Refusal) → unpaired g ≡ refused x → spiderizeAllStep g ≡ refused x
-  unfolding spiderizeAllStep
-  all-8 x e = stops _ e
-
-  pub all-0 : length (g .pairs) ≡ 0 → (m : ℕ → Bool) → m ≡ among (range 0 (length (g .labels))) → spiderizeAllStep g ≡ answered (record { graph = spiderizedAt m g; id = 0 })
-  unfolding spiderizeAllStep spiderize
-  all-0 e m same = goes _ (unpaired-0 g e) ∙ ap (λ (t : ℕ → Bool). answered (record { graph = spiderizedAt t g; id = 0 })) (sym same)
 
 -- ---- the table lists what the call lists
 

@@ -4,30 +4,30 @@ use mathlib.Core.Bool.{Bool, true, false, cond}
 use mathlib.Core.List.{List, [], _∷_, _++_, append-nil, append-assoc, map, map-append}
 use mathlib.Core.Path.{_≡_, refl, sym, ap, _∙_, subst}
 use Prim.Native.Nat.{ℕ, suc, _+_, _-_, _≤_, _<_}
-use native.Mathlib.Nat.{add-zero}
+use native.Mathlib.Nat.{add-zero, zero-add}
 use native.Mathlib.Omega.{arith}
 use lib.Dec.{eqb, ltb}
 use lib.ListN.{length, getD, take, drop, length-append, length-map, take-append-drop, drop-of-length-le}
-use lib.Seq.{take-length, take-all, take-append-le, drop-append-le, take-at, drop-at}
+use lib.Seq.{take-length, take-all, take-append-le, take-append-seam, drop-append-le, take-at, drop-at}
 use borrow.Author.Tests.{ltb-true, ltb-false}
-use Rattle.form.specs.Form.{bodyOf, listsFrom, edgeIn}
+use Rattle.form.specs.Form.{Low, bodyOf, bodySize, listsFrom, edgeIn}
 use Rattle.form.specs.Stored.{graphOf, Stored}
 use Rattle.form.specs.declared.EdgeAt.{EdgeAt}
 use Rattle.form.specs.declared.Sizes.{Sizes}
-use Rattle.form.proofs.Stored.{edge-there}
+use Rattle.form.proofs.Stored.{stored-rows}
 use Rattle.graph.specs.Form.{edgeRow, edgeStart, noEdge}
-use Rattle.graph.specs.Graph.{Edge, Graph, edgeEntries, edgeSources, edgeTargets}
+use Rattle.graph.specs.Graph.{Edge, edgeEntries, edgeSources, edgeTargets}
 use Rattle.graph.specs.Lists.{keep, joined}
 use Rattle.graph.specs.Spider.{freshened, after, freshenedEdges, entriesOf}
 use Rattle.le.specs.Le.{Below}
 use Rattle.le.specs.Rows.{Holds, entry}
 use Rattle.le.specs.declared.Row.{Row}
 use Rattle.spider.specs.Rewriting.{idsAt, Ids, labelled, Fresh, more, kindAt, moreTwo, moreEdges}
-use Rattle.graph.proofs.Laws.{joined-append, joined-split}
+use Rattle.graph.proofs.Laws.{joined-append, joined-at, joined-split}
 use Rattle.graph.proofs.Rows.{length-edge-rows, take-edges, at-edge}
 use Rattle.graph.proofs.Spiders.{keep-append, after-append}
-use Rattle.le.proofs.Numbers.{below-append, below-front, below-back}
-use Rattle.le.proofs.Rows.{holds-less, length-span, span-append, span-one}
+use Rattle.le.proofs.Numbers.{below-front, below-back}
+use Rattle.le.proofs.Rows.{holds-less, length-span, span-append, span-one, span-at, span-part}
 use Rattle.links.proofs.Cells.{keep-more}
 
 -- ---- entries in the row
@@ -42,11 +42,11 @@ module _ (b : List ℕ) (z : Sizes) (j : ℕ) where
         let e : n ≡ i + k + (n - (i + k)) = omega arith in
         ap (idsAt b z j) e ∙ ids-next (i + k) (n - (i + k)) ∙ ap (λ (xs : List ℕ). xs ++ idsAt b z (j + (i + k)) (n - (i + k))) (ids-next i k)
 
-    pub ids-part : Ids b z j n → Ids b z (j + i) k
-    ids-part h = record {
-      stored = h .stored;
+    pub ids-part : {nodes : ℕ} → Ids b z nodes j n → Ids b z nodes (j + i) k
+    ids-part {nodes} h = record {
+      low = h .low;
       held = holds-less (h .held) _ (omega arith);
-      known = below-back _ (idsAt b z j i) _ (below-front _ (idsAt b z j i ++ idsAt b z (j + i) k) _ (subst (Below (z .nodes)) split (h .known)));
+      known = below-back _ (idsAt b z j i) _ (below-front _ (idsAt b z j i ++ idsAt b z (j + i) k) _ (subst (Below nodes) split (h .known)));
     }
 
     pub kept-within : (m : ℕ → Bool) → length (keep m (idsAt b z j i)) + length (keep m (idsAt b z (j + i) k)) ≤ length (keep m (idsAt b z j n))
@@ -62,88 +62,120 @@ module _ (b : List ℕ) (z : Sizes) (j : ℕ) (r : Row) (is : r ≡ bodyOf z) (i
   pub entry-is : idsAt b z j 1 ≡ id ∷ []
   entry-is = span-one b (bodyOf z) j ∙ ap (λ (x : ℕ). x ∷ []) (sym (e ∙ ap (λ (r : Row). entry b r j) is))
 
-  pub entry-known : Ids b z j 1 → id < z .nodes
-  entry-known h = subst (Below (z .nodes)) entry-is (h .known) .0
+  pub entry-known : {nodes : ℕ} → Ids b z nodes j 1 → id < nodes
+  entry-known {nodes} h = subst (Below nodes) entry-is (h .known) .0
 
 -- labels after labels
-module _ (g : Graph) (m : ℕ → Bool) where
-  pub length-labelled : (xs : List ℕ) → length (labelled g m xs) ≡ length (keep m xs)
-  length-labelled xs = length-map (keep m xs) (λ (id : ℕ). getD (g .labels) id 0)
+module _ (labels : List ℕ) (m : ℕ → Bool) where
+  pub length-labelled : (xs : List ℕ) → length (labelled labels m xs) ≡ length (keep m xs)
+  length-labelled xs = length-map (keep m xs) (λ (id : ℕ). getD labels id 0)
 
-  pub labelled-append : (xs ys : List ℕ) → labelled g m (xs ++ ys) ≡ labelled g m xs ++ labelled g m ys
-  labelled-append xs ys = ap (map (λ (id : ℕ). getD (g .labels) id 0)) (keep-append m xs ys) ∙ map-append (λ (id : ℕ). getD (g .labels) id 0) (keep m xs) (keep m ys)
+  pub labelled-append : (xs ys : List ℕ) → labelled labels m (xs ++ ys) ≡ labelled labels m xs ++ labelled labels m ys
+  labelled-append xs ys = ap (map (λ (id : ℕ). getD labels id 0)) (keep-append m xs ys) ∙ map-append (λ (id : ℕ). getD labels id 0) (keep m xs) (keep m ys)
+
+-- ---- the walk over edges
 
 -- an edge that was met on the walk: where its ids stand, and that they are its own
-pub record EdgeRead (b : List ℕ) (z : Sizes) (i k : ℕ) (e : EdgeAt) : Type 0 where
-  pub sources : e .sources ≡ length (getD (graphOf b .edges) i noEdge .sources)
-  pub targets : e .targets ≡ length (getD (graphOf b .edges) i noEdge .targets)
+pub record EdgeRead (b : List ℕ) (z : Sizes) (nodes : ℕ) (es : List Edge) (i k : ℕ) (e : EdgeAt) : Type 0 where
+  pub sources : e .sources ≡ length (getD es i noEdge .sources)
+  pub targets : e .targets ≡ length (getD es i noEdge .targets)
   pub first : e .first ≡ k + 2
-  pub end : e .end ≡ edgeStart (graphOf b .edges) (i + 1)
+  pub end : e .end ≡ edgeStart es (i + 1)
   pub next : e .end ≡ e .first + (e .sources + e .targets)
-  pub ids : Ids b z (e .first) (e .sources + e .targets)
-  pub are : idsAt b z (e .first) (e .sources + e .targets) ≡ getD (graphOf b .edges) i noEdge .sources ++ getD (graphOf b .edges) i noEdge .targets
-  pub inside : e .end ≤ listsFrom z
-  pub few : e .sources + e .targets ≤ z .ports
-  pub sofar : edgeEntries (take (i + 1) (graphOf b .edges)) ≡ edgeEntries (take i (graphOf b .edges)) ++ idsAt b z (e .first) (e .sources + e .targets)
-  pub within : (m : ℕ → Bool) → length (keep m (edgeEntries (take i (graphOf b .edges)))) + length (keep m (idsAt b z (e .first) (e .sources + e .targets))) ≤ length (keep m (edgeEntries (graphOf b .edges)))
+  pub ids : Ids b z nodes (e .first) (e .sources + e .targets)
+  pub counts : idsAt b z k 2 ≡ e .sources ∷ e .targets ∷ []
+  pub are : idsAt b z (e .first) (e .sources + e .targets) ≡ getD es i noEdge .sources ++ getD es i noEdge .targets
+  pub inside : e .end ≤ length (joined edgeRow es)
+  pub few : e .sources + e .targets ≤ length (edgeEntries es)
+  pub sofar : edgeEntries (take (i + 1) es) ≡ edgeEntries (take i es) ++ idsAt b z (e .first) (e .sources + e .targets)
+  pub within : (m : ℕ → Bool) → length (keep m (edgeEntries (take i es))) + length (keep m (idsAt b z (e .first) (e .sources + e .targets))) ≤ length (keep m (edgeEntries es))
 
--- all edges were met
-pub all-edges : {b : List ℕ} {z : Sizes} → Stored b z → (i : ℕ) → i ≡ z .edges → take i (graphOf b .edges) ≡ graphOf b .edges
-all-edges {b} s i e = ap (λ (n : ℕ). take n (graphOf b .edges)) (e ∙ ap (λ (y : Sizes). y .edges) (s .sizes)) ∙ take-length (graphOf b .edges)
+-- the row of an edge among the rows of edges
+pub edge-row : (b : List ℕ) (z : Sizes) (es : List Edge) (i : ℕ) → i < length es → idsAt b z 0 (length (joined edgeRow es)) ≡ joined edgeRow es
+    → idsAt b z (edgeStart es i) (2 + (length (getD es i noEdge .sources) + length (getD es i noEdge .targets))) ≡ edgeRow (getD es i noEdge)
+edge-row b z es i l rows =
+    let d = getD es i noEdge in
+    let n = 2 + (length (d .sources) + length (d .targets)) in
+    let a = at-edge es [] i l in
+    ap (λ (j : ℕ). idsAt b z j n) (sym (zero-add (edgeStart es i))) ∙ sym (span-part b (bodyOf z) 0 (length (joined edgeRow es)) (edgeStart es i) n (omega (arith, a .next, a .inside)))
+    ∙ ap (λ (xs : List ℕ). take n (drop (edgeStart es i) xs)) (rows ∙ sym (append-nil (joined edgeRow es))) ∙ a .whole
 
-module _ {b : List ℕ} {z : Sizes} (s : Stored b z) (i k : ℕ) (l : i < z .edges) (at : k ≡ edgeStart (graphOf b .edges) i) (r : Row) (is : r ≡ bodyOf z) where
+module _ {b : List ℕ} (z : Sizes) (es : List Edge) (i k : ℕ) (l : i < length es) (at : k ≡ edgeStart es i) (held : Holds b (bodyOf z) (length (joined edgeRow es)))
+    (r : Row) (is : r ≡ bodyOf z) where
   pub edge-held : Holds b r (k + 2)
-  edge-held = rw is (edge-there s i k l at .held)
+  edge-held = let a = at-edge es [] i l in rw is (holds-less held (k + 2) (omega (arith, a .next, a .inside)))
 
-  pub edge-read : (e : EdgeAt) → e ≡ edgeIn b r k → EdgeRead b z i k e
+  pub edge-read : idsAt b z (edgeStart es i) (2 + (length (getD es i noEdge .sources) + length (getD es i noEdge .targets))) ≡ edgeRow (getD es i noEdge)
+      → Low z → (nodes : ℕ) → Below nodes (edgeEntries es) → (e : EdgeAt) → e ≡ edgeIn b r k → EdgeRead b z nodes es i k e
   unfolding edgeIn
-  edge-read e met =
-      let g = graphOf b in
-      let t = edge-there s i k l at in
-      let c = met ∙ ap (λ (r : Row). edgeIn b r k) is ∙ t .counts in
-      let inside : i < length (g .edges) = subst (λ (y : Sizes). i < y .edges) (s .sizes) l in
-      let next : e .end ≡ e .first + (e .sources + e .targets) = rw met (omega arith) in
-      let end : e .end ≡ edgeStart (g .edges) (i + 1) = ap (λ (d : EdgeAt). d .end) c in
-      let all : length (joined edgeRow (g .edges)) ≡ listsFrom z = length-edge-rows (g .edges) ∙ sym (ap listsFrom (s .sizes)) in
-      let source-ids : idsAt b z (e .first) (e .sources) ≡ getD (g .edges) i noEdge .sources = (λ x. idsAt b z (c x .first) (c x .sources)) ∙ t .source-ids in
-      let target-ids : idsAt b z (e .first + e .sources) (e .targets) ≡ getD (g .edges) i noEdge .targets = (λ x. idsAt b z (c x .first + c x .sources) (c x .targets)) ∙ t .target-ids in
-      let nodes : length (g .labels) ≡ z .nodes = sym (ap (λ (y : Sizes). y .nodes) (s .sizes)) in
-      let d = getD (g .edges) i noEdge in
-      let n = e .sources + e .targets in
+  edge-read stands low nodes known e met =
+      let d = getD es i noEdge in
+      let a = at-edge es [] i l in
       let entries : Edge → List ℕ = λ d. d .sources ++ d .targets in
-      let both : idsAt b z (e .first) n ≡ entries d = ids-next b z (e .first) (e .sources) (e .targets) ∙ (λ x. source-ids x ++ target-ids x) in
-      let ids : Ids b z (e .first) n = record {
-        stored = s;
-        held = holds-less (t .ids-held) _ (omega arith);
-        known = rw (both, ← nodes) (below-append _ (d .sources) _ (t .sources-known) (t .targets-known));
-      } in
-      let sofar : edgeEntries (take (i + 1) (g .edges)) ≡ edgeEntries (take i (g .edges)) ++ idsAt b z (e .first) n =
-      ap edgeEntries (take-edges (g .edges) i inside) ∙ joined-append entries (take i (g .edges)) (d ∷ []) ∙ ap (λ (xs : List ℕ). edgeEntries (take i (g .edges)) ++ xs) (append-nil (entries d) ∙ sym both) in
+      let m = length (d .sources) + length (d .targets) in
+      let row : idsAt b z k (2 + m) ≡ edgeRow d = ap (λ (j : ℕ). idsAt b z j (2 + m)) at ∙ stands in
+      let c : e ≡ edgeIn b (bodyOf z) k = met ∙ ap (λ (r : Row). edgeIn b r k) is in
+      let sources : e .sources ≡ length (d .sources) = ap (λ (d : EdgeAt). d .sources) c ∙ ap (entry b (bodyOf z)) (sym (add-zero k)) ∙ sym (span-at b (bodyOf z) k (2 + m) 0 (omega arith)) ∙ ap (λ (xs : List ℕ). getD xs 0 0) row in
+      let targets : e .targets ≡ length (d .targets) = ap (λ (d : EdgeAt). d .targets) c ∙ sym (span-at b (bodyOf z) k (2 + m) 1 (omega arith)) ∙ ap (λ (xs : List ℕ). getD xs 1 0) row in
+      let first : e .first ≡ k + 2 = ap (λ (d : EdgeAt). d .first) c in
+      let next : e .end ≡ e .first + (e .sources + e .targets) = rw met (omega arith) in
+      let end : e .end ≡ edgeStart es (i + 1) = omega (arith, a .next) in
+      let n = e .sources + e .targets in
+      let many : n ≡ m = omega arith in
+      let both : idsAt b z (e .first) n ≡ entries d = (λ x. idsAt b z (first x) (many x)) ∙ sym (span-part b (bodyOf z) k (2 + m) 2 m (omega arith)) ∙ ap (λ (xs : List ℕ). take m (drop 2 xs)) row
+      ∙ take-all m (entries d) (omega (arith, length-append (d .sources) (d .targets))) in
+      let counts : idsAt b z k 2 ≡ e .sources ∷ e .targets ∷ [] = ap (λ (j : ℕ). idsAt b z j 2) (sym (add-zero k)) ∙ sym (span-part b (bodyOf z) k (2 + m) 0 2 (omega arith)) ∙ ap (λ (xs : List ℕ). take 2 (drop 0 xs)) row
+      ∙ sym (λ x. sources x ∷ targets x ∷ []) in
+      let here : Below nodes (entries d) = below-front nodes (entries d) _ (below-back nodes (edgeEntries (take i es)) _ (subst (Below nodes) (joined-at entries es i noEdge l) known)) in
+      let sofar : edgeEntries (take (i + 1) es) ≡ edgeEntries (take i es) ++ idsAt b z (e .first) n =
+      ap edgeEntries (take-edges es i l) ∙ joined-append entries (take i es) (d ∷ []) ∙ ap (λ (xs : List ℕ). edgeEntries (take i es) ++ xs) (append-nil (entries d) ∙ sym both) in
       record {
-        sources = ap (λ (d : EdgeAt). d .sources) c;
-        targets = ap (λ (d : EdgeAt). d .targets) c;
-        first = ap (λ (d : EdgeAt). d .first) c;
+        sources = sources;
+        targets = targets;
+        first = first;
         end = end;
         next = next;
-        ids = ids;
+        ids = record { low = low; held = holds-less held _ (omega (arith, a .inside)); known = rw both here };
+        counts = counts;
         are = both;
-        inside = omega (arith, at-edge (g .edges) [] i inside .inside);
+        inside = omega (arith, a .inside);
         few =
             omega (
               arith,
-              ap length sofar ∙ length-append (edgeEntries (take i (g .edges))) (idsAt b z (e .first) n),
+              ap length sofar ∙ length-append (edgeEntries (take i es)) (idsAt b z (e .first) n),
               length-span b (bodyOf z) (e .first) n,
-              ap length (sym (joined-split entries (i + 1) (g .edges))) ∙ length-append (edgeEntries (take (i + 1) (g .edges))) (edgeEntries (drop (i + 1) (g .edges))),
-              ap (λ (y : Sizes). y .ports) (s .sizes),
+              ap length (sym (joined-split entries (i + 1) es)) ∙ length-append (edgeEntries (take (i + 1) es)) (edgeEntries (drop (i + 1) es)),
             );
         sofar = sofar;
         within = λ m.
             omega (
               arith,
-              sym (keep-more m (edgeEntries (take i (g .edges))) (idsAt b z (e .first) n)) ∙ ap (λ (xs : List ℕ). length (keep m xs)) (sym sofar),
-              ap (λ (xs : List ℕ). length (keep m xs)) (sym (joined-split entries (i + 1) (g .edges))) ∙ keep-more m (edgeEntries (take (i + 1) (g .edges))) (edgeEntries (drop (i + 1) (g .edges))),
+              sym (keep-more m (edgeEntries (take i es)) (idsAt b z (e .first) n)) ∙ ap (λ (xs : List ℕ). length (keep m xs)) (sym sofar),
+              ap (λ (xs : List ℕ). length (keep m xs)) (sym (joined-split entries (i + 1) es)) ∙ keep-more m (edgeEntries (take (i + 1) es)) (edgeEntries (drop (i + 1) es)),
             );
       }
+
+-- ---- the rows of a stored graph
+
+module _ {b : List ℕ} {z : Sizes} (s : Stored b z) where
+  pub rows-size : length (joined edgeRow (graphOf b .edges)) ≡ listsFrom z
+  rows-size = length-edge-rows (graphOf b .edges) ∙ sym (ap listsFrom (s .sizes))
+
+  pub rows-stored : idsAt b z 0 (length (joined edgeRow (graphOf b .edges))) ≡ joined edgeRow (graphOf b .edges)
+  rows-stored =
+      let n = length (joined edgeRow (graphOf b .edges)) in
+      sym (span-part b (bodyOf z) 0 (bodySize z) 0 n (omega (arith, rows-size))) ∙ ap (λ (xs : List ℕ). take n (drop 0 xs)) (stored-rows s .body)
+      ∙ take-append-seam (joined edgeRow (graphOf b .edges)) _
+
+  pub rows-held : Holds b (bodyOf z) (length (joined edgeRow (graphOf b .edges)))
+  rows-held = holds-less (stored-rows s .body-held) _ (omega (arith, rows-size))
+
+  pub edges-counted : length (graphOf b .edges) ≡ z .edges
+  edges-counted = sym (ap (λ (y : Sizes). y .edges) (s .sizes))
+
+-- all edges were met
+pub all-edges : (es : List Edge) (i : ℕ) → i ≡ length es → take i es ≡ es
+all-edges es i e = ap (λ (n : ℕ). take n es) e ∙ take-length es
 
 -- ---- fresh nodes, one part after the other
 

@@ -4,7 +4,7 @@ use mathlib.Core.Bool.{Bool, true, false, cond, _&&_}
 use mathlib.Core.List.{List, [], _∷_, _++_, append-assoc, append-nil}
 use mathlib.Core.Path.{_≡_, refl, sym, ap, _∙_, subst}
 use Prim.Native.Nat.{ℕ, _+_, _*_, _≤_, _<_}
-use native.Mathlib.Nat.{add-zero, le-antisymm}
+use native.Mathlib.Nat.{add-zero, le-antisymm, mul-le-mul-right}
 use native.Mathlib.Omega.{arith}
 use lib.Dec.{eqb, ltb}
 use lib.ListN.{length, getD, length-append}
@@ -12,17 +12,18 @@ use borrow.Author.Tests.{eqb-true}
 use Rattle.form.specs.Form.{labelsOf, bodyOf}
 use Rattle.form.specs.declared.Sizes.{Sizes}
 use Rattle.graph.specs.Form.{edgeRow}
-use Rattle.graph.specs.Graph.{Edge, Graph, edgeEntries}
+use Rattle.graph.specs.Graph.{Edge, edgeEntries}
 use Rattle.graph.specs.Lists.{keep, joined}
 use Rattle.graph.specs.Spider.{freshened, after, freshenedEdges, entriesOf}
 use Rattle.le.specs.Rows.{span, puts}
 use Rattle.links.specs.Links.{cells, unlisted, isListed, Linked, linkedTo}
-use Rattle.spider.specs.Rewriting.{idsAt, labelled, Fresh, more, kindAt, moreTwo, moreEdges, Pass, Rewrites, Numbered, Prepared}
+use Rattle.spider.specs.Rewriting.{idsAt, labelsIn, labelled, Fresh, more, kindAt, moreTwo, moreEdges, Pass, Rewrites, Numbered, Prepared}
 use Rattle.graph.proofs.Laws.{joined-append}
 use Rattle.graph.proofs.Spiders.{after-append}
-use Rattle.le.proofs.Rows.{length-span, puts-none, puts-append}
+use Rattle.le.proofs.Rows.{holds-same, length-span, puts-none, puts-append}
 use Rattle.links.proofs.Chains.{puts-swap, links-widen, still-listed, linked-more}
 use Rattle.write.proofs.Results.{room-same}
+use Rattle.le.proofs.InPlace.{span-behind, span-ahead}
 use Rattle.spider.proofs.Lists.{ids-next, ids-part, kept-within, length-labelled, labelled-append, length-freshened, freshened-append, two-none, two-more, two-whole, edges-more, more-edges-more, rows-long}
 
 -- the same fresh nodes, named otherwise
@@ -35,7 +36,7 @@ linked-same nodes W next later E F l e h = record {
 }
 
 -- labels after labels: they stand before all ids, so that it does not matter which ids were put between
-pub labels-on : (m : ℕ → Bool) (g : Graph) (y : Sizes) (old : List ℕ) (start k n : ℕ) (xs ys cs : List ℕ) → n ≡ after m start xs → after m n ys ≤ y .nodes
+pub labels-on : (m : ℕ → Bool) (g : List ℕ) (y : Sizes) (old : List ℕ) (start k n : ℕ) (xs ys cs : List ℕ) → n ≡ after m start xs → after m n ys ≤ y .nodes
     → puts (puts (puts old (labelsOf y) start (labelled g m xs)) (bodyOf y) k cs) (labelsOf y) n (labelled g m ys) ≡ puts (puts old (labelsOf y) start (labelled g m (xs ++ ys))) (bodyOf y) k cs
 labels-on m g y old start k n xs ys cs e within =
     let A = labelled g m xs in
@@ -47,7 +48,7 @@ labels-on m g y old start k n xs ys cs e within =
     ap (λ (i : ℕ). puts (puts (puts old l start A) (bodyOf y) k cs) l i B) at ∙ puts-swap (puts old l start A) l (bodyOf y) (start + length A) k B cs (omega arith)
     ∙ ap (λ (o : List ℕ). puts o (bodyOf y) k cs) (puts-append old l start A B ∙ ap (puts old l start) (sym (labelled-append g m xs ys)))
 
-module _ {m : ℕ → Bool} {nodes start : ℕ} {W old : List ℕ} {g : Graph} {y : Sizes} {k : ℕ} where
+module _ {m : ℕ → Bool} {nodes start : ℕ} {W old : List ℕ} {g : List ℕ} {y : Sizes} {k : ℕ} where
   -- nothing is passed
   pub pass-none : (step : Fresh → Fresh) → ((F : Fresh) (k x : ℕ) → F k x ≡ step F k x) → isListed nodes W ≡ m → start ≤ y .nodes → Pass m nodes start W old g y k [] [] step W old start
   pass-none step e is within = record {
@@ -82,7 +83,7 @@ module _ {m : ℕ → Bool} {nodes start : ℕ} {W old : List ℕ} {g : Graph} {
   }
 
 -- room for the fresh nodes of entries that come after others
-pub numbered-part : {m : ℕ → Bool} {nodes start : ℕ} {W old room X out : List ℕ} {g : Graph} {y : Sizes} {k next end : ℕ} (xs ys : List ℕ) {ns : List ℕ} {step : Fresh → Fresh}
+pub numbered-part : {m : ℕ → Bool} {nodes start : ℕ} {W old room X out : List ℕ} {g : List ℕ} {y : Sizes} {k next end : ℕ} (xs ys : List ℕ) {ns : List ℕ} {step : Fresh → Fresh}
     → Pass m nodes start W old g y k xs ns step X out next → Numbered nodes (y .nodes) start end room → start + (length (keep m xs) + length (keep m ys)) ≤ end
     → (new : List ℕ) → length new ≡ length room → Numbered nodes (y .nodes) next (after (isListed nodes X) next ys) new
 numbered-part {m} {nodes} {start} {next = next} xs ys p h l new e =
@@ -98,7 +99,7 @@ numbered-part {m} {nodes} {start} {next = next} xs ys p h l new e =
 
 -- ---- one entry
 
-module _ (nodes kind next x : ℕ) (W : List ℕ) (g : Graph) (y : Sizes) (within : next ≤ y .nodes) (old new : List ℕ) (k : ℕ) where
+module _ (nodes kind next x : ℕ) (W : List ℕ) (g : List ℕ) (y : Sizes) (within : next ≤ y .nodes) (old new : List ℕ) (k : ℕ) where
   -- of a node that is not listed: the table stays as it is
   pub pass-plain : isListed nodes W x ≡ false → new ≡ puts old (bodyOf y) k (x ∷ [])
       → Pass (isListed nodes W) nodes next W old g y k (x ∷ []) (freshened (isListed nodes W) next (x ∷ [])) (more kind (isListed nodes W) next (x ∷ [])) W new next
@@ -120,7 +121,7 @@ module _ (nodes kind next x : ℕ) (W : List ℕ) (g : Graph) (y : Sizes) (withi
 
   -- of a listed node: its fresh node is linked and has its label
   pub pass-fresh : isListed nodes W x ≡ true → x < nodes → kind < 4 → nodes ≤ next → next < unlisted → nodes * 3 + next < length W → next < y .nodes → (W′ : List ℕ) → W′ ≡ linkedTo nodes x kind next W
-      → new ≡ puts (puts old (labelsOf y) next (getD (g .labels) x 0 ∷ [])) (bodyOf y) k (next ∷ [])
+      → new ≡ puts (puts old (labelsOf y) next (getD g x 0 ∷ [])) (bodyOf y) k (next ∷ [])
       → Pass (isListed nodes W) nodes next W old g y k (x ∷ []) (freshened (isListed nodes W) next (x ∷ [])) (more kind (isListed nodes W) next (x ∷ [])) W′ new (next + 1)
   pass-fresh e known is-kind high small inside room W′ is-W is = record {
     number = rw e;
@@ -139,11 +140,11 @@ module _ (nodes kind next x : ℕ) (W : List ℕ) (g : Graph) (y : Sizes) (withi
 -- ---- entries after entries
 
 -- a later pass, over a table that lists the same nodes
-pub later : {m : ℕ → Bool} {nodes : ℕ} {g : Graph} {y : Sizes} {X mid Y new ys : List ℕ} {n l j : ℕ} (step : (ℕ → Bool) → ℕ → List ℕ → Fresh → Fresh) → isListed nodes X ≡ m
+pub later : {m : ℕ → Bool} {nodes : ℕ} {g : List ℕ} {y : Sizes} {X mid Y new ys : List ℕ} {n l j : ℕ} (step : (ℕ → Bool) → ℕ → List ℕ → Fresh → Fresh) → isListed nodes X ≡ m
     → Pass (isListed nodes X) nodes n X mid g y j ys (freshened (isListed nodes X) n ys) (step (isListed nodes X) n ys) Y new l → Pass m nodes n X mid g y j ys (freshened m n ys) (step m n ys) Y new l
 later {m} {nodes} {g} {y} {X} {mid} {Y} {new} {ys} {n} {l} {j} step e q = subst (λ (t : ℕ → Bool). Pass t nodes n X mid g y j ys (freshened t n ys) (step t n ys) Y new l) e q
 
-module _ {m : ℕ → Bool} {nodes start : ℕ} {W old : List ℕ} {g : Graph} {y : Sizes} {k : ℕ} where
+module _ {m : ℕ → Bool} {nodes start : ℕ} {W old : List ℕ} {g : List ℕ} {y : Sizes} {k : ℕ} where
   -- one entry more of two lists
   pub pass-more : {xs X mid ys Y new : List ℕ} {n l j kind : ℕ} (first a b : ℕ) → Pass m nodes start W old g y k xs (freshened m start xs) (moreTwo first a b m start xs) X mid n
       → Pass (isListed nodes X) nodes n X mid g y j ys (freshened (isListed nodes X) n ys) (more kind (isListed nodes X) n ys) Y new l → kind ≡ kindAt first a b (length xs) → length ys ≡ 1 → j ≡ k + length xs
@@ -184,14 +185,42 @@ module _ {m : ℕ → Bool} {nodes start : ℕ} {W old : List ℕ} {g : Graph} {
       (λ F kk x. (λ v. moreTwo c 1 2 m (p .number v) (is v) (moreEdges m start es F) kk x) ∙ two-whole m c 1 2 N (e .sources) (e .targets) ec (moreEdges m start es F) kk x
       ∙ sym (ap (λ (G : Fresh). G kk x) (more-edges-more m start es e F)))
 
--- ---- a loop over two lists
+-- ---- what a pass leaves as it was
+
+module _ {m : ℕ → Bool} {nodes start : ℕ} {W old g : List ℕ} {y : Sizes} {k : ℕ} {xs cs : List ℕ} {f : Fresh → Fresh} {X new : List ℕ} {n : ℕ} (p : Pass m nodes start W old g y k xs cs f X new n) where
+  -- the labels of the nodes, before those of the fresh nodes
+  pub labels-kept : nodes ≤ start → labelsIn new y nodes ≡ labelsIn old y nodes
+  labels-kept l =
+      let q = p .number in
+      let w = p .within in
+      ap (λ (o : List ℕ). labelsIn o y nodes) (p .stored) ∙ span-ahead (puts old (labelsOf y) start (labelled g m xs)) (bodyOf y) (labelsOf y) k 0 nodes cs (omega arith)
+      ∙ span-ahead old (labelsOf y) (labelsOf y) start 0 nodes (labelled g m xs) (omega arith)
+
+  -- the counts and ids behind those that it put
+  pub rest-kept : (j i : ℕ) → k + length cs ≤ j → idsAt new y j i ≡ idsAt old y j i
+  rest-kept j i l =
+      let q = p .number in
+      let w = p .within in
+      let long = length-labelled g m xs in
+      ap (λ (o : List ℕ). idsAt o y j i) (p .stored) ∙ span-behind (puts old (labelsOf y) start (labelled g m xs)) (bodyOf y) (bodyOf y) k j i cs (omega (arith, mul-le-mul-right (y .width) l))
+      ∙ span-behind old (labelsOf y) (bodyOf y) start j i (labelled g m xs) (omega arith)
+
+-- the same pass over ids and labels that are the same
+pub pass-same : {m : ℕ → Bool} {nodes start : ℕ} {W old g h : List ℕ} {y : Sizes} {k : ℕ} {xs ys X new : List ℕ} {n : ℕ} (step : (ℕ → Bool) → ℕ → List ℕ → Fresh → Fresh) → g ≡ h → xs ≡ ys
+    → Pass m nodes start W old g y k xs (freshened m start xs) (step m start xs) X new n → Pass m nodes start W old h y k ys (freshened m start ys) (step m start ys) X new n
+pass-same {m} {nodes} {start} {W} {old} {g} {h} {y} {k} {xs} {ys} {X} {new} {n} step e d p =
+    subst (λ (t : List ℕ). Pass m nodes start W old h y k t (freshened m start t) (step m start t) X new n) d
+    (subst (λ (t : List ℕ). Pass m nodes start W old t y k xs (freshened m start xs) (step m start xs) X new n) e p)
+
+-- ---- a loop over two lists that stand one after the other
 
 -- what it has passed
-pub record Passed (b : List ℕ) (z y : Sizes) (j n k first a c start : ℕ) (room₀ out₀ : List ℕ) (i : ℕ) (room out : List ℕ) (next : ℕ) : Type 0 where
+pub record Passed (y : Sizes) (nodes k n first a c start : ℕ) (room₀ out₀ : List ℕ) (i : ℕ) (room out : List ℕ) (next : ℕ) : Type 0 where
   pub few : i ≤ n
   pub same-room : length room ≡ length room₀
   pub same-out : length out ≡ length out₀
-  pub pass : Rewrites b z y j i k (moreTwo first a c) start room₀ out₀ room out next
+  pub pass : Pass (isListed nodes (cells room₀)) nodes start (cells room₀) out₀ (labelsIn out₀ y nodes) y k (idsAt out₀ y k i)
+      (freshened (isListed nodes (cells room₀)) start (idsAt out₀ y k i)) (moreTwo first a c (isListed nodes (cells room₀)) start (idsAt out₀ y k i)) (cells room) out next
 
 pub kind-low : (first a b i : ℕ) → a < 4 → b < 4 → kindAt first a b i < 4
 kind-low first a b i la lb = go (ltb i first)
@@ -200,35 +229,45 @@ kind-low first a b i la lb = go (ltb i first)
     go true = la
     go false = lb
 
-module _ {b : List ℕ} {z y : Sizes} {j n k start : ℕ} {room₀ out₀ : List ℕ} (h : Prepared b z y j n k start room₀ out₀) (first a c : ℕ) where
-  pub passed-none : Passed b z y j n k first a c start room₀ out₀ 0 room₀ out₀ start
+module _ {y : Sizes} {nodes k n start : ℕ} {room₀ out₀ : List ℕ} (h : Prepared y nodes k n start room₀ out₀) (first a c : ℕ) where
+  pub passed-none : Passed y nodes k n first a c start room₀ out₀ 0 room₀ out₀ start
   unfolding span
   passed-none = record {
     few = omega arith;
     same-room = refl;
     same-out = refl;
-    pass = pass-none _ (two-none (isListed (z .nodes) (cells room₀)) first a c start) refl (omega (arith, h .numbered .labels));
+    pass = pass-none _ (two-none (isListed nodes (cells room₀)) first a c start) refl (omega (arith, h .numbered .labels));
   }
 
-  module _ {i : ℕ} {room out : List ℕ} {next : ℕ} (p : Passed b z y j n k first a c start room₀ out₀ i room out next) where
-    pub passed-ready : i < n → Prepared b z y (j + i) 1 (k + i) next room out
-    passed-ready l = record {
-      ids = ids-part b z j n i 1 (omega arith) (h .ids);
-      numbered = numbered-part (idsAt b z j i) (idsAt b z (j + i) 1) (p .pass) (h .numbered) (omega (arith, kept-within b z j n i 1 (omega arith) (isListed (z .nodes) (cells room₀)))) room (p .same-room);
-      buffer = room-same (h .buffer) out (p .same-out);
-      held = omega (arith, h .held);
-    }
+  module _ {i : ℕ} {room out : List ℕ} {next : ℕ} (p : Passed y nodes k n first a c start room₀ out₀ i room out next) where
+    long : i ≡ length (idsAt out₀ y k i)
+    long = sym (length-span out₀ (bodyOf y) k i)
 
-    pub passed-more : i < n → {kind : ℕ} → kind ≡ kindAt first a c i → {room′ out′ : List ℕ} {next′ : ℕ} → Rewrites b z y (j + i) 1 (k + i) (more kind) next room out room′ out′ next′ → length room′ ≡ length room
-        → length out′ ≡ length out → Passed b z y j n k first a c start room₀ out₀ (i + 1) room′ out′ next′
-    passed-more l is q e d =
-        let long : i ≡ length (idsAt b z j i) = sym (length-span b (bodyOf z) j i) in
+    -- the entries that are left stand where they stood
+    left : (j : ℕ) → idsAt out y (k + i) j ≡ idsAt out₀ y (k + i) j
+    left j = rest-kept (p .pass) (k + i) j (omega (arith, length-freshened (isListed nodes (cells room₀)) start (idsAt out₀ y k i), length-span out₀ (bodyOf y) k i))
+
+    pub passed-ready : i < n → Prepared y nodes (k + i) 1 next room out
+    passed-ready l =
+        let part = ids-part out₀ y k n i 1 (omega arith) (h .ids) in
         record {
-          few = omega arith;
-          same-room = e ∙ p .same-room;
-          same-out = d ∙ p .same-out;
-          pass = rw (ids-next b z j i 1) (pass-more first a c (p .pass) q (is ∙ ap (kindAt first a c) long) (length-span b (bodyOf z) (j + i) 1) (ap (λ (x : ℕ). k + x) long));
+          ids = record { low = part .low; held = holds-same (part .held) out (p .same-out); known = rw (left 1) (part .known) };
+          numbered = rw (left 1) (numbered-part (idsAt out₀ y k i) (idsAt out₀ y (k + i) 1) (p .pass) (h .numbered) (omega (arith, kept-within out₀ y k n i 1 (omega arith) (isListed nodes (cells room₀)))) room (p .same-room));
+          buffer = room-same (h .buffer) out (p .same-out);
         }
 
-    pub passed-all : n ≤ i → Rewrites b z y j n k (moreTwo first a c) start room₀ out₀ room out next
-    passed-all l = subst (λ (x : ℕ). Rewrites b z y j x k (moreTwo first a c) start room₀ out₀ room out next) (le-antisymm (p .few) l) (p .pass)
+    pub passed-more : i < n → {kind : ℕ} → kind ≡ kindAt first a c i → {room′ out′ : List ℕ} {next′ : ℕ} → Rewrites y nodes (k + i) 1 (more kind) next room out room′ out′ next′ → length room′ ≡ length room
+        → length out′ ≡ length out → Passed y nodes k n first a c start room₀ out₀ (i + 1) room′ out′ next′
+    passed-more l {kind} is q e d = record {
+      few = omega arith;
+      same-room = e ∙ p .same-room;
+      same-out = d ∙ p .same-out;
+      pass = rw (ids-next out₀ y k i 1)
+          (pass-more first a c (p .pass) (pass-same (more kind) (labels-kept (p .pass) (h .numbered .from)) (left 1) q) (is ∙ ap (kindAt first a c) long) (length-span out₀ (bodyOf y) (k + i) 1) (ap (λ (x : ℕ). k + x) long));
+    }
+
+    pub passed-all : n ≤ i → Rewrites y nodes k n (moreTwo first a c) start room₀ out₀ room out next
+    passed-all l =
+        let m = isListed nodes (cells room₀) in
+        subst (λ (x : ℕ). Pass m nodes start (cells room₀) out₀ (labelsIn out₀ y nodes) y k (idsAt out₀ y k x) (freshened m start (idsAt out₀ y k x)) (moreTwo first a c m start (idsAt out₀ y k x)) (cells room) out next)
+        (le-antisymm (p .few) l) (p .pass)

@@ -2,12 +2,12 @@
 -- Assumes nothing.
 use mathlib.Core.List.{List}
 use mathlib.Core.Path.{_≡_, refl, ap, _∙_}
-use Prim.Native.Nat.{ℕ, _+_, _-_, _≤_}
+use Prim.Native.Nat.{ℕ, _+_, _-_, _≤_, _<_}
 use lib.ListN.{length, take}
 use denote.Ref.{now}
 use Rattle.form.specs.Form.{bodyOf}
 use Rattle.form.specs.Stored.{graphOf}
-use Rattle.form.proofs.Stored.{stored-rows}
+use Rattle.form.proofs.Stored.{stored-rows, stored-known}
 use Rattle.graph.specs.Form.{edgeStart}
 use Rattle.graph.specs.Graph.{Edge, edgeEntries}
 use Rattle.graph.specs.Lists.{keep}
@@ -15,7 +15,8 @@ use Rattle.le.proofs.Rows.{holds-index, length-span}
 use Rattle.links.specs.Links.{cells, isListed}
 use Rattle.links.proofs.Cells.{keep-more}
 use Rattle.spider.specs.Rewriting.{idsAt}
-use Rattle.spider.proofs.Lists.{EdgeRead, edge-held, edge-read, all-edges, keep-few}
+use Rattle.spider.proofs.Lists.{EdgeRead, edge-row, edge-held, edge-read, rows-stored, rows-held, edges-counted, all-edges, keep-few}
+use borrow.Author.Needs.{needs}
 use native.Mathlib.Omega.{arith}
 use Rattle.spider.proofs.count_edges.Statement.{statement}
 use Rattle.spider.proofs.count_edges.Tie as tie
@@ -33,12 +34,21 @@ body-row-requires c κs = stored-rows (c .before .before .pre .0) .low
 loop-holds : tie.Need-loop-holds Inv-loop μ-loop
 loop-holds c = (omega arith, refl, refl, omega arith, refl)
 
+inside : (c : tie.In-loop Inv-loop μ-loop) → c .before .loop .i < length (graphOf (now (c .before .before .before .before .before .args .src)) .edges)
+inside c = omega (arith, edges-counted (c .before .before .before .before .before .pre .0))
+
 edge-at-requires : tie.Need-edge-at-requires Inv-loop μ-loop
-edge-at-requires c κs = let S = c .before .before .before .before .before in let l = c .before .loop in edge-held (S .pre .0) (l .i) (l .k) (omega arith) (l .inv .2) _ (c .before .before .body-row .ensures)
+edge-at-requires c κs = let s = c .before .before .before .before .before .pre .0 in let l = c .before .loop in edge-held (c .before .before .before .before .before .args .z) (graphOf (now (c .before .before .before .before .before .args .src)) .edges) (l .i) (l .k) (inside c) (l .inv .2) (rows-held s) _ (c .before .before .body-row .ensures)
 
 -- the edge of this turn
-met : (c : tie.After-edge-at Inv-loop μ-loop) → EdgeRead (now (c .before .before .before .before .before .before .args .src)) (c .before .before .before .before .before .before .args .z) (c .before .before .loop .i) (c .before .before .loop .k) (c .edge-at .result)
-met c = let S = c .before .before .before .before .before .before in let l = c .before .before .loop in edge-read (S .pre .0) (l .i) (l .k) (omega arith) (l .inv .2) _ (c .before .before .before .body-row .ensures) (c .edge-at .result) (c .edge-at .ensures)
+met : (c : tie.After-edge-at Inv-loop μ-loop) → EdgeRead (now (c .before .before .before .before .before .before .args .src)) (c .before .before .before .before .before .before .args .z) (c .before .before .before .before .before .before .args .z .nodes) (graphOf (now (c .before .before .before .before .before .before .args .src)) .edges) (c .before .before .loop .i) (c .before .before .loop .k) (c .edge-at .result)
+met c =
+    let s = c .before .before .before .before .before .before .pre .0 in
+    let b = now (c .before .before .before .before .before .before .args .src) in
+    let z = c .before .before .before .before .before .before .args .z in
+    let l = c .before .before .loop in
+    let es = graphOf b .edges in
+    edge-read z es (l .i) (l .k) (inside (c .before)) (l .inv .2) (rows-held s) _ (c .before .before .before .body-row .ensures) (edge-row b z es (l .i) (inside (c .before)) (rows-stored s)) (stored-rows s .low) (z .nodes) (stored-known s .edges) (c .edge-at .result) (c .edge-at .ensures)
 
 add-count-part : tie.Need-add-count-part Inv-loop μ-loop
 add-count-part c = omega (arith, holds-index (met (c .before) .ids .held))
@@ -68,10 +78,9 @@ loop-again c =
 
 returns : tie.Need-returns Inv-loop μ-loop
 returns c =
-    let S = c .before .before .before .before .before in
-    let a = S .args in
+    let a = c .before .before .before .before .before .args in
     let l = c .before .loop in
-    l .inv .4 ∙ ap (λ (es : List Edge). length (keep (isListed (a .z .nodes) (cells (now (a .room)))) (edgeEntries es))) (all-edges (S .pre .0) (l .i) (omega (arith, l .inv .0, l .inv .1, c .loop-test .left)))
+    l .inv .4 ∙ ap (λ (es : List Edge). length (keep (isListed (a .z .nodes) (cells (now (a .room)))) (edgeEntries es))) (all-edges (graphOf (now (a .src)) .edges) (l .i) (omega (arith, l .inv .0, l .inv .1, c .loop-test .left, edges-counted (c .before .before .before .before .before .pre .0))))
 
 pub count-edges-spec : {M : Type 1} → statement M
 count-edges-spec =
@@ -85,7 +94,7 @@ count-edges-spec =
     add-count-part
     count-part-requires
     add-count
-    (λ c. omega arith)
-    (λ c. omega arith)
+    (λ c. search needs)
+    (λ c. search needs)
     loop-again
     returns)

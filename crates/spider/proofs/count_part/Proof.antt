@@ -6,13 +6,13 @@ use Prim.Native.Nat.{ℕ, _+_, _-_, _≤_}
 use native.Mathlib.Nat.{le-antisymm}
 use lib.ListN.{length}
 use denote.Ref.{now}
-use Rattle.form.proofs.Stored.{stored-rows}
 use Rattle.graph.specs.Lists.{keep}
 use Rattle.le.specs.Le.{Below}
 use Rattle.le.specs.Rows.{Holds, entry, span}
 use Rattle.le.proofs.Rows.{holds-less, holds-index, span-next}
 use Rattle.links.specs.Links.{cells, isListed}
-use Rattle.links.proofs.Cells.{entry-below, keep-more}
+use Rattle.links.proofs.Cells.{keep-more}
+use Rattle.write.proofs.Grows.{entry-below}
 use native.Mathlib.Omega.{arith}
 use Rattle.spider.proofs.count_part.Statement.{statement}
 use Rattle.spider.proofs.count_part.Tie as tie
@@ -25,7 +25,7 @@ abbrev μ-loop : tie.MeasureT-loop
 μ-loop src j n room row count₀ i₀ count i = n - i
 
 body-row-requires : tie.Need-body-row-requires Inv-loop μ-loop
-body-row-requires c κs = stored-rows (c .before .before .pre .0 .stored) .low
+body-row-requires c κs = c .before .before .pre .0 .low
 
 loop-holds : tie.Need-loop-holds Inv-loop μ-loop
 unfolding span
@@ -48,7 +48,7 @@ one-if-listed-requires : tie.Need-one-if-listed-requires Inv-loop μ-loop
 one-if-listed-requires c κs =
     let a = c .before .before .before .before .before .before .args in
     let l = c .before .before .loop in
-    let k = entry-below (now (a .src)) (c .before .before .before .body-row .result) (a .j) (a .n) (a .z .nodes) (known (c .before)) (l .i) (omega arith) in
+    let k = entry-below (a .z .nodes) (now (a .src)) (c .before .before .before .body-row .result) (a .j) (a .n) (known (c .before)) (l .i) _ (omega arith) refl in
     let e : c .number .result ≡ entry (now (a .src)) (c .before .before .before .body-row .result) (a .j + l .i) = c .number .ensures .0 in
     omega arith
 
@@ -63,7 +63,7 @@ loop-again c =
       omega arith,
       λ nodes k.
           let test = isListed nodes (cells (now (a .room))) in
-          let less = entry-below (now (a .src)) row (a .j) (a .n) nodes k (l .i) (omega arith) in
+          let less = entry-below nodes (now (a .src)) row (a .j) (a .n) k (l .i) _ (omega arith) refl in
           let more = ap (λ (xs : List ℕ). length (keep test xs)) (span-next (now (a .src)) row (a .j) (l .i) ∙ ap (λ (x : ℕ). span (now (a .src)) row (a .j) (l .i) ++ (x ∷ [])) (sym e))
           ∙ keep-more test (span (now (a .src)) row (a .j) (l .i)) (c .before .number .result ∷ []) in
           omega (arith, l .inv .2 nodes k, one .1 nodes (omega arith), more),

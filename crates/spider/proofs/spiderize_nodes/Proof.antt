@@ -2,25 +2,28 @@
 -- Assumes nothing.
 use mathlib.Core.List.{List, []}
 use mathlib.Core.Path.{_≡_, sym, ap, _∙_}
-use Prim.Native.Nat.{ℕ}
+use Prim.Native.Nat.{ℕ, _*_, _≤_}
 use lib.ListN.{length}
 use denote.Ref.{now}
 use Rattle.form.specs.Form.{meantBy}
 use Rattle.form.specs.Stored.{graphOf, formatOf}
-use Rattle.form.proofs.Answers.{test-refused}
+use Rattle.form.proofs.Listed.{Given, ids-given, ids-refused, ids-below}
 use Rattle.form.proofs.Stored.{stored-rows}
 use Rattle.graph.specs.Answer.{Answer, answered}
-use Rattle.graph.specs.Calls.{Next, idList, unpaired, spiderizeStep}
-use Rattle.graph.specs.Graph.{Graph, Format}
+use Rattle.graph.specs.Calls.{Next, idList, roomSpiderize, spiderizeStep}
+use Rattle.graph.specs.Graph.{Graph, Format, largest}
 use Rattle.graph.specs.Lists.{among}
-use Rattle.le.proofs.Numbers.{below-each}
-use Rattle.links.specs.Links.{cells, isListed, Linked}
-use Rattle.write.proofs.Calls.{gives-by}
-use Rattle.spider.proofs.Parts.{heads-held}
+use Rattle.graph.specs.Merge.{looked}
+use Rattle.graph.proofs.Spidered.{spiderize-7, spiderize-11}
+use Rattle.le.specs.Le.{Below, words}
 use Rattle.le.specs.Rows.{rowAt, span}
-use Rattle.form.proofs.Listed.{Given, ids-given, ids-refused, ids-below}
-use Rattle.le.specs.Le.{Below}
-use Rattle.spider.proofs.Calls.{Opened, opened, short, unreadable, stopped, none-paired, step-7, step-8, step-0, listed-ids}
+use Rattle.le.proofs.Numbers.{below-each, below-widen}
+use Rattle.links.specs.Links.{cells, isListed, Linked}
+use Rattle.quotient.proofs.Calls.{told-refused}
+use Rattle.write.proofs.Calls.{gives-by}
+use Rattle.spider.specs.Rewriting.{tableOf}
+use Rattle.spider.proofs.Calls.{Opened, opened, short, unreadable, stopped, listed-ids}
+use Rattle.spider.proofs.Ready.{Told, classes-told, classes-few, classes-known, classes-looked, told-kept, ready, step-listed}
 use borrow.Author.Needs.{needs}
 use native.Mathlib.Omega.{arith}
 use Rattle.spider.proofs.spiderize_nodes.Statement.{statement}
@@ -54,7 +57,7 @@ returns-3 c =
     let o = form (c .before .before .before .before) in
     let e = ids-refused (o .form) _ _ (l .result) (l .ensures) (x .0 .0) (x .1) in
     stopped o (next S) (now (S .args .out)) (x .1) (c .refusal3 .ensures)
-    (step-7 (formatOf b) (now (S .args .ids)) (graphOf b) (meantBy (x .0 .0)) (ap (λ (n : ℕ). idList (formatOf b) n (now (S .args .ids))) (sym (o .nodes)) ∙ e))
+    (spiderize-7 (formatOf b) (now (S .args .ids)) (graphOf b) (meantBy (x .0 .0)) (ap (λ (n : ℕ). idList (formatOf b) n (now (S .args .ids))) (sym (o .nodes)) ∙ e))
 
 -- the list that was checked
 abbrev chosen : tie.After-known-told2 → List ℕ
@@ -69,44 +72,72 @@ known c = let l = c .before .before .before .id-list in ids-below (form (c .befo
 is-list : (c : tie.After-known-told2) → idList (formatOf (now (c .before .before .before .before .before .before .before .before .before .before .before .before .before .before .before .args .src))) (length (graphOf (now (c .before .before .before .before .before .before .before .before .before .before .before .before .before .before .before .args .src)) .labels)) (now (c .before .before .before .before .before .before .before .before .before .before .before .before .before .before .before .args .ids)) ≡ answered (chosen c)
 is-list c = let a = c .before .before .before .before .before .before .before .before .before .before .before .before .before .before .before .args in ap (λ (n : ℕ). idList (formatOf (now (a .src))) n (now (a .ids))) (sym (form (c .before .before .before .before) .nodes)) ∙ list c .answers
 
+map-classes-requires : tie.Need-map-classes-requires
+map-classes-requires c κs = let o = form (c .before .before .before .before .before) in (o .form, omega (arith, o .roomy, o .nodes, o .form .within .counts .nodes))
+
 returns-4 : tie.Need-returns-4
 returns-4 c =
-    let S = c .before .before .before .before .before .before .before .before .before .before .before .before .before .before .before .before .before .before .before in
+    let S = c .before .before .before .before .before .before .before .before .before .before .before .before .before .before .before .before .before .before .before .before .before .before in
     let b = now (S .args .src) in
-    let g = graphOf b in
-    let x = c .before .enum-told6 .given in
-    let u = c .before .before .before .unpaired in
-    let o = form (c .before .before .before .before .before .before .before .before) in
-    stopped o (next S) (now (S .args .out)) (x .1) (c .refusal4 .ensures)
-    (step-8 (formatOf b) (now (S .args .ids)) g _ (is-list (c .before .before .before .before)) (meantBy (x .0 .0)) (test-refused (unpaired g) (u .result) (u .ensures g (o .pairs)) (x .0 .0) (x .1)))
+    let r = c .before .before .before .before .before .map-classes in
+    let x = c .before .enum-told5 .given in
+    stopped (form (c .before .before .before .before .before .before .before .before .before .before .before)) (next S) (now (S .args .out)) (x .1) (c .refusal4 .ensures)
+    (spiderize-11 (formatOf b) (now (S .args .ids)) (graphOf b) _ (is-list (c .before .before .before .before .before .before .before)) _ (told-refused (graphOf b) _ (r .result) (r .ensures) (x .0 .0) (x .1)))
 
-list-none-requires : tie.Need-list-none-requires
-list-none-requires c κs = let o = form (c .before .before .before .before .before .before .before .before) in heads-held (o .form) (now (c .before .before .before .before .before .before .before .before .before .before .before .before .before .before .before .before .before .before .before .args .room)) (o .roomy)
+-- the classes that were found
+told : (c : tie.After-known-told3) → Told (now (c .before .before .before .before .before .before .before .before .before .before .before .before .before .before .before .before .before .before .before .before .before .before .args .src)) (c .before .merging .given .0 .0) (c .before .before .before .before .before .map-classes .last .1 .1 .0)
+told c = classes-told (c .before .before .before .before .before .map-classes .ensures) (c .before .merging .given .1)
 
-list-ids-requires : tie.Need-list-ids-requires
-list-ids-requires c κs =
-    let l = list (c .before .before .before .before .before .before .before .before) in
-    let o = form (c .before .before .before .before .before .before .before .before .before .before .before .before) in
-    (l .there, known (c .before .before .before .before .before .before .before .before), heads-held (o .form) (c .before .before .before .list-none .last .0) (omega (arith, o .roomy, c .before .before .before .list-none .kept .0)))
+roomy : (c : tie.After-known-told3) → roomSpiderize ≤ length (c .before .before .before .before .before .map-classes .last .1 .1 .0)
+roomy c = omega (arith, form (c .before .before .before .before .before .before .before .before .before .before .before) .roomy, c .before .before .before .before .before .map-classes .kept .1 .1 .0)
 
--- no pair is pending, and the table lists the nodes of the list
-none : (c : tie.After-enum-told5) → length (graphOf (now (c .before .before .before .before .before .before .before .before .before .before .before .before .before .before .before .before .before .before .args .src)) .pairs) ≡ 0
-none c = let g = graphOf (now (c .before .before .before .before .before .before .before .before .before .before .before .before .before .before .before .before .before .before .args .src)) in let u = c .before .before .unpaired in none-paired g (u .result) (u .ensures g (form (c .before .before .before .before .before .before .before) .pairs)) _ (c .enum-told5 .given .1)
+few : (c : tie.After-known-told3) → c .before .merging .given .0 .0 ≤ largest .most .nodes
+few c = classes-few (form (c .before .before .before .before .before .before .before .before .before .before .before) .form) (told c)
 
-listed : (c : tie.After-list-ids) → (isListed (c .before .before .before .before .before .before .before .before .before .before .before .before .before .before .graph .given .0 .0 .nodes) (cells (c .list-ids .last .0)) ≡ among (chosen (c .before .before .before .before .before .before .before .before .before))) × Linked (c .before .before .before .before .before .before .before .before .before .before .before .before .before .before .graph .given .0 .0 .nodes) (cells (c .list-ids .last .0)) (c .before .before .before .before .before .before .before .before .before .before .before .before .before .before .graph .given .0 .0 .nodes) (λ k x. [])
-listed c = listed-ids (c .before .before .before .before .before .before .before .before .before .before .before .before .before .before .graph .given .0 .0 .nodes) (cells (c .list-ids .last .0)) (chosen (c .before .before .before .before .before .before .before .before .before)) (known (c .before .before .before .before .before .before .before .before .before)) (c .list-ids .ensures (c .before .before .before .before .list-none .ensures))
+list-nothing-requires : tie.Need-list-nothing-requires
+list-nothing-requires c κs = (roomy (c .before), few (c .before))
+
+-- with a table behind them that lists nothing
+cleared : (c : tie.After-list-nothing) → Told (now (c .before .before .before .before .before .before .before .before .before .before .before .before .before .before .before .before .before .before .before .before .before .before .before .before .args .src)) (c .before .before .before .merging .given .0 .0) (c .list-nothing .last .0)
+cleared c = told-kept (form (c .before .before .before .before .before .before .before .before .before .before .before .before .before) .form) (told (c .before .before)) (c .list-nothing .ensures)
+
+within : (c : tie.After-list-nothing) → Below (c .before .before .before .merging .given .0 .0) (looked (words (c .list-nothing .last .0)) (chosen (c .before .before .before .before .before .before .before .before .before)))
+within c = classes-known (form (c .before .before .before .before .before .before .before .before .before .before .before .before .before) .form) (cleared c) (chosen (c .before .before .before .before .before .before .before .before .before)) (known (c .before .before .before .before .before .before .before .before .before))
+
+list-classes-requires : tie.Need-list-classes-requires
+list-classes-requires c κs =
+    let e = c .before .before .before in
+    let o = form (c .before .before .before .before .before .before .before .before .before .before .before .before .before .before .before .before) in (
+      omega (arith, roomy (c .before .before .before .before .before), e .list-nothing .kept .0),
+      few (c .before .before .before .before .before),
+      list (c .before .before .before .before .before .before .before .before .before .before .before .before) .there,
+      below-widen (chosen (c .before .before .before .before .before .before .before .before .before .before .before .before)) (omega (arith, o .nodes, o .form .within .counts .nodes)) (known (c .before .before .before .before .before .before .before .before .before .before .before .before)),
+      within e,
+    )
+
+-- and with one that lists the classes of the list
+behind : (c : tie.After-list-classes) → Told (now (c .before .before .before .before .before .before .before .before .before .before .before .before .before .before .before .before .before .before .before .before .before .before .before .before .before .before .before .before .args .src)) (c .before .before .before .before .before .before .before .merging .given .0 .0) (c .list-classes .last .0)
+behind c = told-kept (form (c .before .before .before .before .before .before .before .before .before .before .before .before .before .before .before .before .before) .form) (cleared (c .before .before .before .before)) (c .list-classes .ensures (c .before .before .before .before .list-nothing .ensures .heads))
+
+listed : (c : tie.After-list-classes) → (isListed (c .before .before .before .before .before .before .before .merging .given .0 .0) (cells (tableOf (c .list-classes .last .0))) ≡ among (looked (words (c .before .before .before .before .list-nothing .last .0)) (chosen (c .before .before .before .before .before .before .before .before .before .before .before .before .before))))
+    × Linked (c .before .before .before .before .before .before .before .merging .given .0 .0) (cells (tableOf (c .list-classes .last .0))) (c .before .before .before .before .before .before .before .merging .given .0 .0) (λ k x. [])
+listed c = listed-ids (c .before .before .before .before .before .before .before .merging .given .0 .0) (cells (tableOf (c .list-classes .last .0))) (looked (words (c .before .before .before .before .list-nothing .last .0)) (chosen (c .before .before .before .before .before .before .before .before .before .before .before .before .before))) (within (c .before .before .before .before)) (c .list-classes .ensures (c .before .before .before .before .list-nothing .ensures .heads) .heads)
 
 write-spiderized-requires : tie.Need-write-spiderized-requires
 write-spiderized-requires c κs =
-    let l = listed (c .before .before .before .before) in
-    let o = form (c .before .before .before .before .before .before .before .before .before .before .before .before .before .before .before .before .before) in
-    (o .form, sym (o .pairs) ∙ none (c .before .before .before .before .before .before .before .before .before .before), omega (arith, o .roomy, c .before .before .before .before .list-ids .kept .0, c .before .before .before .before .before .before .before .before .list-none .kept .0), l .1, (chosen (c .before .before .before .before .before .before .before .before .before .before .before .before .before), l .0))
+    let e = c .before .before .before .before in
+    ready (form (c .before .before .before .before .before .before .before .before .before .before .before .before .before .before .before .before .before .before .before .before .before) .form) (behind e) (omega (arith, roomy (c .before .before .before .before .before .before .before .before .before .before), e .list-classes .kept .0, c .before .before .before .before .before .before .before .before .list-nothing .kept .0)) (looked (words (c .before .before .before .before .before .before .before .before .list-nothing .last .0)) (chosen (c .before .before .before .before .before .before .before .before .before .before .before .before .before .before .before .before .before))) (listed e)
 
 returns-5 : tie.Need-returns-5
 returns-5 c =
-    let S = c .before .before .before .before .before .before .before .before .before .before .before .before .before .before .before .before .before .before .before .before .before .before .before .before .before .before .before .before .before .before .before .before .before in
-    let b = now (S .args .src) in
-    gives-by (form (c .before .before .before .before .before .before .before .before .before .before .before .before .before .before .before .before .before .before .before .before .before .before) .enough _) (c .before .before .before .before .write-spiderized .ensures (next S) (step-0 (formatOf b) (now (S .args .ids)) (graphOf b) _ (is-list (c .before .before .before .before .before .before .before .before .before .before .before .before .before .before .before .before .before .before)) (none (c .before .before .before .before .before .before .before .before .before .before .before .before .before .before .before)) _ (listed (c .before .before .before .before .before .before .before .before .before) .0)))
+    let S = c .before .before .before .before .before .before .before .before .before .before .before .before .before .before .before .before .before .before .before .before .before .before .before .before .before .before .before .before .before .before .before .before .before .before .before .before .before in
+    let e = c .before .before .before .before .before .before .before .before .before in
+    let n = c .before .before .before .before .before .before .before .before .before .before .before .before .before in
+    let k = c .before .before .before .before .before .before .before .before .before .before .before .before .before .before .before .before .before .before .before .before .before .before in
+    let o = form (c .before .before .before .before .before .before .before .before .before .before .before .before .before .before .before .before .before .before .before .before .before .before .before .before .before .before) in
+    gives-by (o .enough _)
+    (c .before .before .before .before .write-spiderized .ensures (next S)
+    (step-listed (behind e) (formatOf (now (S .args .src))) (now (S .args .ids)) (chosen k) (is-list k) (listed e .0 ∙ ap among (classes-looked (o .form) (cleared n) (chosen k) (known k)))))
 
 pub spiderize-nodes-spec : {M : Type 1} → statement M
 spiderize-nodes-spec =
@@ -127,13 +158,14 @@ spiderize-nodes-spec =
     (λ c. search needs)
     (λ c κs. search needs)
     returns-3
-    (λ c κs. search needs)
+    map-classes-requires
     (λ c. search needs)
     (λ c. search needs)
     (λ c κs. search needs)
+    (λ c. search needs)
     returns-4
-    list-none-requires
-    list-ids-requires
+    list-nothing-requires
+    list-classes-requires
     write-spiderized-requires
     (λ c. search needs)
     (λ c. search needs)
