@@ -7,7 +7,8 @@ use Prim.Native.Nat.{ℕ, _≤_, _<_, _^_}
 use native.Mathlib.Omega.{arith}
 use lib.ListN.{length}
 use Rattle.graph.specs.Answer.{Answer, answered, Result, writing, saying}
-use Rattle.graph.specs.Calls.{Next, known, labelList, idList, unpaired, onNothing, onGraph, inWorkRoom, rewriteStep, emptyStep, discreteStep, identityStep, singletonStep, newNodeStep, newEdgeStep, newOperationStep, unifyStep, addEdgeSourceStep, addEdgeTargetStep, deleteEdgesStep, spiderizeStep, spiderizeAllStep, readCall, rewriteCall, emptyCall, discreteCall, identityCall, singletonCall, newNodeCall, newEdgeCall, newOperationCall, unifyCall, addEdgeSourceCall, addEdgeTargetCall, deleteEdgesCall, deleteNodesCall, spiderizeCall, spiderizeNodesCall, onceFedCall}
+use Rattle.graph.specs.Calls.{Next, known, labelList, idList, onNothing, onGraph, inWorkRoom, rewriteStep, emptyStep, discreteStep, identityStep, singletonStep, newNodeStep, newEdgeStep, newOperationStep, unifyStep, addEdgeSourceStep, addEdgeTargetStep, deleteEdgesStep, spiderizeStep, spiderizeAllStep, readCall, rewriteCall, emptyCall, discreteCall, identityCall, singletonCall, newNodeCall, newEdgeCall, newOperationCall, unifyCall, addEdgeSourceCall, addEdgeTargetCall, deleteEdgesCall, deleteNodesCall, quotientCall, spiderizeCall, spiderizeNodesCall, onceFedCall}
+use Rattle.graph.specs.Merge.{quotient}
 use Rattle.graph.specs.Graph.{Graph, Format, Proper, WellFormed, largest}
 use Rattle.graph.specs.Checks.{monogamous}
 use Rattle.choice.specs.Drawing.{noLoop}
@@ -15,8 +16,8 @@ use Rattle.le.specs.Le.{Below}
 use Rattle.choice.specs.Calls.{cycleBreakingNodesCall, noLoopCall}
 use Rattle.choice.proofs.Graphs.{chosen-and-free-are-all}
 use Rattle.choice.proofs.Stored.{cycle-breaking-nodes-answer, no-loop-answer, cycle-breaking-nodes-listed, no-loop-listed}
-use Rattle.graph.proofs.Answers.{FormOf, Keeps, on-graph-answer, on-nothing-answer, read-answer, delete-nodes-answer, once-fed-answer, worked, rewrite-kept, empty-kept, discrete-kept, identity-kept, singleton-kept, new-node-kept, new-edge-kept, new-operation-kept, unify-kept, add-source-kept, add-target-kept, delete-edges-kept, spiderize-kept, spiderize-all-kept}
-use Rattle.graph.proofs.Refusals.{Listed, refused-in, on-graph-listed, on-nothing-listed, work-listed, read-listed, rewrite-listed, empty-listed, discrete-listed, identity-listed, singleton-listed, new-node-listed, new-edge-listed, new-operation-listed, unify-listed, add-source-listed, add-target-listed, delete-edges-listed, spiderize-listed, spiderize-all-listed, delete-nodes-call-listed, once-fed-listed}
+use Rattle.graph.proofs.Answers.{FormOf, Keeps, on-graph-answer, on-nothing-answer, read-answer, delete-nodes-answer, quotient-call-answer, once-fed-answer, worked, rewrite-kept, empty-kept, discrete-kept, identity-kept, singleton-kept, new-node-kept, new-edge-kept, new-operation-kept, unify-kept, add-source-kept, add-target-kept, delete-edges-kept, spiderize-kept, spiderize-all-kept}
+use Rattle.graph.proofs.Refusals.{Listed, refused-in, on-graph-listed, on-nothing-listed, work-listed, read-listed, rewrite-listed, empty-listed, discrete-listed, identity-listed, singleton-listed, new-node-listed, new-edge-listed, new-operation-listed, unify-listed, add-source-listed, add-target-listed, delete-edges-listed, spiderize-listed, spiderize-all-listed, delete-nodes-call-listed, quotient-call-listed, once-fed-listed}
 use Rattle.graph.proofs.Steps.{same-answer, came}
 use Rattle.graph.proofs.Versions.{read-sound, longest}
 use Rattle.ohg.specs.Packed.{Ranged}
@@ -134,7 +135,7 @@ module _ (b : List ℕ) (t : Below 256 b) (room : ℕ) where
   unfolding spiderizeAllStep
   spiderize-ranged workRoom =
       graph-work-ranged _ workRoom (λ f. spiderizeAllStep) (λ f. spiderize-all-kept) (λ f. spiderize-all-listed)
-      (λ f g x h e. let q = came (unpaired g) _ e in omega (arith, id-of (q .2)))
+      (λ f g x h e. let q = came (quotient g) _ e in omega (arith, id-of (q .2)))
 
   pub spiderize-nodes-ranged : (list : List ℕ) (workRoom : ℕ) → Ranged (spiderizeNodesCall b list room workRoom)
   unfolding spiderizeStep
@@ -142,7 +143,7 @@ module _ (b : List ℕ) (t : Below 256 b) (room : ℕ) where
       graph-work-ranged _ workRoom (λ f. spiderizeStep f list) (λ f. spiderize-kept f list) (λ f. spiderize-listed f list)
       (λ f g x h e.
       let p = came (idList f (length (g .labels)) list) _ e in
-      let q = came (unpaired g) _ (p .2) in
+      let q = came (quotient g) _ (p .2) in
       omega (arith, id-of (q .2)))
 
   pub delete-nodes-ranged : (gone : List ℕ) (mapRoom workRoom : ℕ) → Ranged (deleteNodesCall b gone room mapRoom workRoom)
@@ -154,6 +155,17 @@ module _ (b : List ℕ) (t : Below 256 b) (room : ℕ) where
         let sound = read-sound b s t (h .2) in
         let within = sound .version .grows (s .graph) (sound .formed) .counts .nodes in
         (omega (arith, h .6, form-short (h .4)), omega (arith, h .7, within));
+  }
+
+  pub quotient-ranged : (mapRoom workRoom : ℕ) → Ranged (quotientCall b room mapRoom workRoom)
+  quotient-ranged mapRoom workRoom = record {
+    no = λ r e. refused-in (quotient-call-listed b room mapRoom workRoom) e;
+    numbers = λ m e.
+        let h = quotient-call-answer b room mapRoom workRoom m t e in
+        let s = h .0 in
+        let sound = read-sound b s t (h .2) in
+        let within = sound .version .grows (s .graph) (sound .formed) .counts .nodes in
+        (omega (arith, h .7, form-short (h .5)), omega (arith, h .8, within));
   }
 
   pub cycle-breaking-nodes-ranged : (workRoom : ℕ) → Ranged (cycleBreakingNodesCall b room workRoom)

@@ -2,7 +2,7 @@
 ghost use mathlib.Core.Path.{_≡_};
 ghost use lib.ListN.{length};
 ghost use Prim.Native.Nat.{min};
-ghost use Rattle.graph.specs.Calls.{readCall, rewriteCall, emptyCall, discreteCall, identityCall, singletonCall, newNodeCall, newEdgeCall, newOperationCall, unifyCall, addEdgeSourceCall, addEdgeTargetCall, deleteEdgesCall, deleteNodesCall, spiderizeCall, spiderizeNodesCall, onceFedCall};
+ghost use Rattle.graph.specs.Calls.{readCall, rewriteCall, emptyCall, discreteCall, identityCall, singletonCall, newNodeCall, newEdgeCall, newOperationCall, unifyCall, addEdgeSourceCall, addEdgeTargetCall, deleteEdgesCall, deleteNodesCall, quotientCall, spiderizeCall, spiderizeNodesCall, onceFedCall};
 ghost use Rattle.choice.specs.Calls.{cycleBreakingNodesCall, noLoopCall};
 ghost use Rattle.ohg.specs.Packed.{packed, Returns, ReturnsMap, packedOutcome, Packs};
 use form::Outcome;
@@ -170,6 +170,15 @@ pub extern "C" fn ohg_delete_nodes(
     ensures { λ r. ⌜ ReturnsMap (deleteNodesCall (now (src .entry)) (now (ids .entry)) (length (now (out .entry))) (length (now (map .entry))) (length (now (room .entry)))) r (now (out .entry)) (now (out .exit)) (now (map .entry)) (now (map .exit)) ⌝ }
 {
     let x = delete::delete_nodes(src, ids, out, map, room);
+    pack(x)
+}
+
+// The graph with one node for each class of nodes that its pairs join, and where each old node went.
+#[no_mangle]
+pub extern "C" fn ohg_quotient(src: &[u8], out: &mut [u8], map: &mut [u8], room: &mut [u8]) -> u64
+    ensures { λ r. ⌜ ReturnsMap (quotientCall (now (src .entry)) (length (now (out .entry))) (length (now (map .entry))) (length (now (room .entry)))) r (now (out .entry)) (now (out .exit)) (now (map .entry)) (now (map .exit)) ⌝ }
+{
+    let x = quotient::quotient(src, out, map, room);
     pack(x)
 }
 

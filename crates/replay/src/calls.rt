@@ -128,6 +128,20 @@ fn two_in_with_room(
     }
 }
 
+fn one_in_two_out_with_room(
+    operation: u8,
+    src: &[u8],
+    out: &mut [u8],
+    map: &mut [u8],
+    room: &mut [u8],
+    due: u64,
+) -> bool {
+    match operation {
+        19 => ohg::ohg_quotient(src, out, map, room) == due,
+        _ => false,
+    }
+}
+
 fn two_out_with_room(
     operation: u8,
     src: &[u8],
@@ -154,6 +168,7 @@ fn with_room(list: &[u8], record: Record, out: &mut [u8], map: &mut [u8], room: 
     match shape {
         10 => yes_or_no(operation, one, room, due),
         11 => one_in_with_room(operation, one, out, room, due),
+        12 => one_in_two_out_with_room(operation, one, out, map, room, due),
         21 => two_in_with_room(operation, one, two, out, room, due),
         22 => two_out_with_room(operation, one, two, out, map, room, due),
         _ => false,
