@@ -38,18 +38,18 @@ extern "C" {
 /* The place that a refusal carries: by 1 to 6 a byte of `src`, by 7 an entry of a list, both counted from 0. A place that is too large for
  * 32 bits is given as 4,294,967,295.
  *
- *   1             the length
- *   2             0
- *   3             3
- *   4             the first byte of the count that broke its limit: in the header the first such count; at an edge its source count if the
- *                 sum of the ports passes the limit with it, else its target count
- *   5             the length, if the form is too short: a header of version 2, labels, an edge's counts or ids, or lists that are not all
- *                 there; else the first byte too many
- *   6             the first byte of the first bad id in stored order: the edges, of each its sources and then its targets, the global
- *                 sources, the global targets, the pairs
- *   7             0 for an id given singly; these are looked at first. Then each list in the call's order: if its end is broken the number
- *                 of its whole entries, else the index of its first bad id
- *   8, 9, 10, 13  0 */
+ *   1                 the length
+ *   2                 0
+ *   3                 3
+ *   4                 the first byte of the count that broke its limit: in the header the first such count; at an edge its source count if
+ *                     the sum of the ports passes the limit with it, else its target count
+ *   5                 the length, if the form is too short: a header of version 2, labels, an edge's counts or ids, or lists that are not
+ *                     all there; else the first byte too many
+ *   6                 the first byte of the first bad id in stored order: the edges, of each its sources and then its targets, the global
+ *                     sources, the global targets, the pairs
+ *   7                 0 for an id given singly; these are looked at first. Then each list in the call's order: if its end is broken the
+ *                     number of its whole entries, else the index of its first bad id
+ *   8, 9, 10, 11, 13  0 */
 #define OHG_PLACE(answer) OHG_B(answer)
 
 /* Why a call was refused; the first that holds, in this order, but OHG_SHORT_BUFFER for work room before all others, OHG_OTHER_LENGTH for a
@@ -64,7 +64,8 @@ enum ohg_refusal {
     OHG_FOREIGN_ID = 6,     /* a stored node id is not below the node count */
     OHG_OTHER_FORM = 13,    /* a form of version 2 whose graph fits version 1: one graph has one form; write it by version 1 */
     OHG_BAD_LIST = 7,       /* a list in the call ends in a broken entry, or an id in the call is not below its count */
-    OHG_PENDING_PAIR = 8,   /* the graph has a pending pair, and the operation needs none: draw joined nodes as one, or delete one of each pair */
+    OHG_PENDING_PAIR = 8,   /* the graph has a pending pair, and the operation needs none: merge joined nodes first, by ohg_quotient */
+    OHG_LABELS_DIFFER = 11, /* two nodes that pending pairs join have different labels: give them one label, or delete the pair's nodes */
     OHG_RESULT_LIMIT = 9,   /* the result would pass a limit of version 2: split the drawing */
     OHG_SHORT_BUFFER = 10   /* an answer buffer is shorter than the answer, or work room is shorter than its macro says */
 };
@@ -95,8 +96,9 @@ static inline uint32_t ohg_width(const uint8_t *src, size_t src_len) {
 /* The bytes of work room that each function asks for. */
 #define OHG_ROOM_DELETE_EDGES 16384
 #define OHG_ROOM_DELETE_NODES 16384
-#define OHG_ROOM_SPIDERIZE 131072
-#define OHG_ROOM_SPIDERIZE_NODES 131072
+#define OHG_ROOM_QUOTIENT 65536
+#define OHG_ROOM_SPIDERIZE 196608
+#define OHG_ROOM_SPIDERIZE_NODES 196608
 #define OHG_ROOM_CYCLE_BREAKING_NODES 1390016
 #define OHG_ROOM_NO_LOOP 1190656
 #define OHG_ROOM_ONCE_FED 16384
@@ -169,14 +171,23 @@ uint64_t ohg_delete_edges(const uint8_t *src, size_t src_len, const uint8_t *ids
 uint64_t ohg_delete_nodes(const uint8_t *src, size_t src_len, const uint8_t *ids, size_t ids_len, uint8_t *out, size_t out_len,
                           uint8_t *map, size_t map_len, uint8_t *room, size_t room_len);
 
-/* The graph with the implicit wiring of all its nodes made explicit: every entry of a node gets a fresh node with its label, numbered on from
+/* The pending pairs carried out: nodes that pairs join, directly or through others, become one node with their label, numbered in order of
+ * the least of them. Entries of edges and global lists are renamed, edges keep order and labels, and no pairs are left. Without pairs it is the
+ * same graph.
+ * `map` gets, as wide as in `src`, the new id of each old node. If either buffer is too short neither is written.
+ * a: bytes written to `out`. b: map entries written. Room: OHG_ROOM_QUOTIENT. Refusals: 10 (room), 1 to 6, 13, 11, 10. */
+uint64_t ohg_quotient(const uint8_t *src, size_t src_len, uint8_t *out, size_t out_len, uint8_t *map, size_t map_len, uint8_t *room,
+                      size_t room_len);
+
+/* The graph, its joined nodes merged as by ohg_quotient, with the implicit wiring of all its nodes made explicit: every entry of a node gets a fresh node with its label, numbered on from
  * the node count, and two spiders are appended for each node, which join what the fresh nodes took apart. A spider already there stays one.
- * a: bytes written. b: 0. Room: OHG_ROOM_SPIDERIZE. Refusals: 10 (room), 1 to 6, 13, 8, 9, 10. */
+ * a: bytes written. b: 0. Room: OHG_ROOM_SPIDERIZE. Refusals: 10 (room), 1 to 6, 13, 11, 9, 10. */
 uint64_t ohg_spiderize(const uint8_t *src, size_t src_len, uint8_t *out, size_t out_len, uint8_t *room, size_t room_len);
 
-/* The same of the nodes in a list; repeats and order have no effect. Spiderizing the nodes that ohg_cycle_breaking_nodes lists leaves no
+/* The same of the nodes in a list, whose ids are those before merging; repeats and order have no effect. Spiderizing the nodes that ohg_cycle_breaking_nodes lists leaves no
  * directed cycle.
- * a: bytes written. b: 0. Room: OHG_ROOM_SPIDERIZE_NODES. Refusals: 10 (room), 1 to 6, 13, 7 to 10. */
+ * a: bytes written. b: 0. Room: OHG_ROOM_SPIDERIZE_NODES. Refusals: 10 (room), 1 to 6, 13, 7, 11, 9,
+ * 10. */
 uint64_t ohg_spiderize_nodes(const uint8_t *src, size_t src_len, const uint8_t *ids, size_t ids_len, uint8_t *out, size_t out_len,
                              uint8_t *room, size_t room_len);
 
