@@ -177,7 +177,8 @@ impl Graph {
         Ok((EdgeId(edge), (sources, targets)))
     }
 
-    /// Adds a pending pair of nodes. No labels are compared.
+    /// Adds a pending pair of nodes: marks them as joined, which [`quotient`](Graph::quotient) carries out. No labels are
+    /// compared.
     ///
     /// Refused: [`BadList`](Refusal::BadList), [`ResultLimit`](Refusal::ResultLimit).
     pub fn unify(&mut self, v: NodeId, w: NodeId) -> Result<(), Refused> {
@@ -227,6 +228,20 @@ impl Graph {
         Ok(map.chunks_exact(width).map(kept).collect())
     }
 
+    /// Carries the pending pairs out: nodes that pairs join, directly or through others, become one node with their label,
+    /// numbered in order of the least of them. Every entry is renamed, edges keep their order, and no pairs are left. Answers
+    /// where each old node went.
+    ///
+    /// Refused: [`LabelsDiffer`](Refusal::LabelsDiffer).
+    pub fn quotient(&mut self) -> Result<Vec<NodeId>, Refused> {
+        // Of the graph as it is read: the merged one may be of the other version.
+        let width = self.width();
+        let mut map = self.entry_for_each();
+        self.replace(|form, lent| ohg_quotient(form, &mut lent.form, &mut map, &mut lent.room))?;
+        let entries = map.chunks_exact(width);
+        Ok(entries.map(|id| NodeId(number(id))).collect())
+    }
+
     /// Chooses nodes that every directed cycle passes through: spiderizing them leaves none. They need not be the
     /// fewest.
     ///
@@ -243,16 +258,18 @@ impl Graph {
         })
     }
 
-    /// The graph with the wiring of all nodes made explicit by spiders.
+    /// The graph with its joined nodes merged, as by [`quotient`](Graph::quotient), and then the wiring of all nodes made
+    /// explicit by spiders.
     ///
-    /// Refused: [`PendingPair`](Refusal::PendingPair), [`ResultLimit`](Refusal::ResultLimit).
+    /// Refused: [`LabelsDiffer`](Refusal::LabelsDiffer), [`ResultLimit`](Refusal::ResultLimit).
     pub fn spiderize(&self) -> Result<Graph, Refused> {
         Graph::made(|lent| ohg_spiderize(&self.form, &mut lent.form, &mut lent.room))
     }
 
-    /// The graph with the wiring of these nodes made explicit by spiders. Repeats and order have no effect.
+    /// The graph with its joined nodes merged and then the wiring of these nodes made explicit by spiders. Their ids are
+    /// those before merging; repeats and order have no effect, nor has it which of joined nodes are listed.
     ///
-    /// Refused: [`BadList`](Refusal::BadList), [`PendingPair`](Refusal::PendingPair),
+    /// Refused: [`BadList`](Refusal::BadList), [`LabelsDiffer`](Refusal::LabelsDiffer),
     /// [`ResultLimit`](Refusal::ResultLimit).
     pub fn spiderize_nodes(&self, nodes: &[NodeId]) -> Result<Graph, Refused> {
         let ids = self.node_ids(nodes);

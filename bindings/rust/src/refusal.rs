@@ -23,6 +23,8 @@ pub enum Refusal {
     BadList = 7,
     /// The graph has a pending pair, and the operation needs none.
     PendingPair = 8,
+    /// Two nodes that pending pairs join have different labels.
+    LabelsDiffer = 11,
     /// The result would pass a limit of version 2.
     ResultLimit = 9,
     /// A buffer or work room was too short. This crate lends enough for the library that it belongs to.
@@ -30,7 +32,7 @@ pub enum Refusal {
 }
 
 impl Refusal {
-    const ALL: [Refusal; 11] = [
+    const ALL: [Refusal; 12] = [
         Refusal::NoHeader,
         Refusal::NoMark,
         Refusal::OtherVersion,
@@ -40,11 +42,12 @@ impl Refusal {
         Refusal::OtherForm,
         Refusal::BadList,
         Refusal::PendingPair,
+        Refusal::LabelsDiffer,
         Refusal::ResultLimit,
         Refusal::ShortBuffer,
     ];
 
-    /// The refusal's number, 1 to 10 or 13.
+    /// The refusal's number, 1 to 11 or 13.
     pub fn number(self) -> u8 {
         self as u8
     }
@@ -81,7 +84,10 @@ impl Refusal {
                 "an id in the call is not below its count; check it against the graph's sizes"
             }
             Refusal::PendingPair => {
-                "the graph has a pending pair; draw joined nodes as one, or delete one of each pair"
+                "the graph has a pending pair; merge joined nodes first, by `quotient`"
+            }
+            Refusal::LabelsDiffer => {
+                "nodes that pairs join have different labels; give them one, or delete the pair's nodes"
             }
             Refusal::ResultLimit => "the result would pass a limit; split the drawing",
             Refusal::ShortBuffer => {

@@ -25,6 +25,14 @@ fn p6() -> Graph {
     drawn(2, &[(9, &[0], &[1]), (10, &[1], &[0])])
 }
 
+/// A graph with these pairs of nodes joined.
+fn joined(mut graph: Graph, pairs: &[(u32, u32)]) -> Graph {
+    for &(v, w) in pairs {
+        assert_eq!(graph.unify(NodeId(v), NodeId(w)), Ok(()));
+    }
+    graph
+}
+
 /// P6 on the last two of so many nodes that the form is of version 2.
 fn larger_p6() -> Graph {
     drawn(2050, &[(9, &[2048], &[2049]), (10, &[2049], &[2048])])
@@ -253,14 +261,105 @@ fn refuses_foreign_ids(whole: Graph) {
 
 #[test]
 fn a_pending_pair_is_refused_where_none_may_be() {
-    let mut p9 = p6();
-    p9.unify(NodeId(0), NodeId(1)).unwrap();
+    let mut p9 = joined(p6(), &[(0, 1)]);
     assert_eq!(p9.sizes().pairs, 1);
     assert_eq!(p9.cycle_breaking_nodes(), Err(at(Refusal::PendingPair, 0)));
-    assert_eq!(p9.spiderize(), Err(at(Refusal::PendingPair, 0)));
-    assert_eq!(p9.spiderize_nodes(&[]), Err(at(Refusal::PendingPair, 0)));
     assert_eq!(p9.no_loop(), Err(at(Refusal::PendingPair, 0)));
     assert_eq!(p9.once_fed(), Err(at(Refusal::PendingPair, 0)));
+    p9.quotient().unwrap();
+    assert_eq!(p9.cycle_breaking_nodes(), chosen(&[0], 2));
+    assert_eq!((p9.no_loop(), p9.once_fed()), (Ok(false), Ok(false)));
+}
+
+#[test]
+fn merging_makes_joined_nodes_one_and_says_where_each_went() {
+    let mut p9 = joined(p6(), &[(0, 1)]);
+    assert_eq!(p9.quotient(), Ok(nodes(&[0, 0])));
+    assert_eq!(p9, drawn(1, &[(9, &[0], &[0]), (10, &[0], &[0])]));
+
+    // Without pairs nothing changes, nor with a node joined to itself, but that its pair goes.
+    for pairs in [&[][..], &[(1, 1)]] {
+        let mut same = joined(p7(), pairs);
+        assert_eq!(same.quotient(), Ok(nodes(&[0, 1, 2])));
+        assert_eq!(same, p7());
+    }
+
+    // A chain from its end on; then classes that lie across each other, numbered by the least in each.
+    let across = drawn(5, &[(9, &[4, 3], &[2]), (10, &[1, 0], &[])]);
+    let mut chain = joined(across.clone(), &[(4, 3), (3, 2), (2, 1), (1, 0)]);
+    assert_eq!(chain.quotient(), Ok(nodes(&[0; 5])));
+    assert_eq!(chain, drawn(1, &[(9, &[0, 0], &[0]), (10, &[0, 0], &[])]));
+    let mut across = joined(across, &[(3, 1), (4, 2), (2, 4)]);
+    assert_eq!(across.quotient(), Ok(nodes(&[0, 1, 2, 1, 2])));
+    assert_eq!(across, drawn(3, &[(9, &[2, 1], &[2]), (10, &[1, 0], &[])]));
+}
+
+#[test]
+fn joined_nodes_with_different_labels_are_not_merged() {
+    let mut p6 = Graph::discrete(&[5, 6]).unwrap();
+    p6.new_edge(9, &nodes(&[0]), &nodes(&[1])).unwrap();
+    p6.new_edge(10, &nodes(&[1]), &nodes(&[0])).unwrap();
+    let p9 = joined(p6, &[(0, 1)]);
+    let differ = at(Refusal::LabelsDiffer, 0);
+    let mut graph = p9.clone();
+    assert_eq!(graph.quotient(), Err(differ));
+    assert_eq!(graph, p9);
+    assert_eq!(p9.spiderize(), Err(differ));
+    assert_eq!(p9.spiderize_nodes(&[]), Err(differ));
+    // The list is looked at before.
+    let bad = p9.spiderize_nodes(&nodes(&[0, 2]));
+    assert_eq!(bad, Err(at(Refusal::BadList, 1)));
+
+    // The ends of a chain; nodes that no pair has may differ.
+    let three = Graph::discrete(&[5, 5, 6]).unwrap();
+    let mut chain = joined(three.clone(), &[(0, 1), (1, 2)]);
+    assert_eq!(chain.quotient(), Err(differ));
+    assert_eq!(joined(three, &[(1, 0)]).quotient(), Ok(nodes(&[0, 0, 1])));
+}
+
+#[test]
+fn spiderizing_merges_first() {
+    let p9 = joined(p6(), &[(0, 1)]);
+    let mut merged = p9.clone();
+    merged.quotient().unwrap();
+    let explicit = drawn(
+        5,
+        &[
+            (9, &[1], &[2]),
+            (10, &[3], &[4]),
+            (SPIDER, &[], &[0, 1, 3]),
+            (SPIDER, &[0, 2, 4], &[]),
+        ],
+    );
+    assert_eq!(p9.spiderize(), Ok(explicit.clone()));
+    // Either id stands for both; none merges all the same.
+    for ids in [&[0][..], &[1], &[1, 0]] {
+        assert_eq!(p9.spiderize_nodes(&nodes(ids)), Ok(explicit.clone()));
+    }
+    assert_eq!(p9.spiderize_nodes(&[]), Ok(merged));
+}
+
+#[test]
+fn merging_in_version_2_goes_back_to_version_1_where_that_is_enough() {
+    let mut stays = joined(larger_p6(), &[(2049, 5)]);
+    let map = (0..2049).map(NodeId).chain([NodeId(5)]);
+    assert_eq!(stays.quotient(), Ok(map.collect()));
+    assert_eq!(
+        stays,
+        drawn(2049, &[(9, &[2048], &[5]), (10, &[5], &[2048])])
+    );
+
+    // The map has an entry for each of the nodes that were read.
+    let mut goes = joined(larger_p6(), &[(2049, 2048), (1, 0)]);
+    let explicit = goes.spiderize_nodes(&nodes(&[2049])).unwrap();
+    let map = goes.quotient().unwrap();
+    assert_eq!(map.len(), 2050);
+    assert_eq!(map[..4], nodes(&[0, 0, 1, 2]));
+    assert_eq!(map[2047..], nodes(&[2046, 2047, 2047]));
+    let back = drawn(2048, &[(9, &[2047], &[2047]), (10, &[2047], &[2047])]);
+    assert_eq!(goes, back);
+    assert_eq!(goes.as_bytes()[3], 1);
+    assert_eq!(back.spiderize_nodes(&nodes(&[2047])), Ok(explicit));
 }
 
 #[test]
@@ -360,6 +459,9 @@ fn the_largest_form_fits() {
     assert_eq!(graph.delete_edges(&[]), Ok(()));
     assert_eq!(graph.delete_nodes(&[]).unwrap().len(), 16_384);
     assert_eq!(graph.as_bytes(), bytes);
+    // Its pairs join the last node with itself.
+    assert_eq!(graph.quotient().unwrap().len(), 16_384);
+    assert_eq!(graph.as_bytes().len(), 655_385 - 8192 * 8);
 }
 
 #[test]
@@ -374,6 +476,8 @@ fn the_largest_form_of_version_1_fits() {
     assert_eq!(graph.delete_edges(&[]), Ok(()));
     assert_eq!(graph.delete_nodes(&[]).unwrap().len(), 2048);
     assert_eq!(graph.as_bytes(), bytes);
+    assert_eq!(graph.quotient().unwrap().len(), 2048);
+    assert_eq!(graph.as_bytes().len(), 49_167 - 1024 * 4);
 }
 
 #[test]
@@ -392,4 +496,6 @@ fn a_refusal_says_its_number_its_place_and_what_to_do() {
     assert_eq!(at(Refusal::BadList, 2).to_string(), text);
     let text = "13: a form of version 2 whose graph fits version 1; write it by version 1";
     assert_eq!(at(Refusal::OtherForm, 0).to_string(), text);
+    let text = "11: nodes that pairs join have different labels; give them one, or delete the pair's nodes";
+    assert_eq!(at(Refusal::LabelsDiffer, 0).to_string(), text);
 }
