@@ -1,4 +1,4 @@
-//! A load balancer's packet path: drawn, asked for loops, cut where the choice says, and asked again.
+//! A load balancer's packet path: drawn, its joined pins merged, asked for loops, cut where the choice says, and asked again.
 //!
 //! ```text
 //! receive -arrived-> joiner -merged-> parser --body-------------> rewriter -ready-> splitter -leaving-> transmit
@@ -11,9 +11,11 @@
 //! ```
 //!
 //! A packet that no server takes is sent round again (retry, by way of body and by way of key), and the server picked
-//! last is probed for the next pick (health): three loops, and each needs a buffer.
+//! last is probed for the next pick (health): three loops, and each needs a buffer. The wire back is long, and is drawn as
+//! two pins that are marked as joined: retry at the splitter, and again at the joiner.
 //!
-//! What is printed, worked out by hand. The wires are nodes 0 to 8, the blocks edges 0 to 7: 17 vertices.
+//! What is printed, worked out by hand. Retry (8) and again (9) become one wire, numbered as the first of them, so the
+//! wires are nodes 0 to 8, as many as the pins but one, and the blocks edges 0 to 7: 17 vertices.
 //!
 //! - Nothing leads to receive, so it goes freely, and then arrived; transmit leads to nothing, and goes with leaving: 4.
 //!   Of the wires left, server has one arc in and two out and scores 2; the others have one each and score 1. Server (4)
@@ -37,9 +39,10 @@ const HEALTH: NodeId = NodeId(5);
 const READY: NodeId = NodeId(6);
 const LEAVING: NodeId = NodeId(7);
 const RETRY: NodeId = NodeId(8);
+const AGAIN: NodeId = NodeId(9);
 
-/// The wires' names and, as labels, how many bits they carry at once; a wire's place is its id.
-const WIRES: [(&str, u32); 9] = [
+/// The pins' names and, as labels, how many bits they carry at once; a pin's place is its id.
+const PINS: [(&str, u32); 10] = [
     ("arrived", 512),
     ("merged", 512),
     ("body", 512),
@@ -49,12 +52,13 @@ const WIRES: [(&str, u32); 9] = [
     ("ready", 512),
     ("leaving", 512),
     ("retry", 512),
+    ("again", 512),
 ];
 
 /// The blocks: kinds as labels, sources, targets.
 const BLOCKS: [(u32, &[NodeId], &[NodeId]); 8] = [
     (1, &[], &[ARRIVED]),               // receive
-    (11, &[ARRIVED, RETRY], &[MERGED]), // joiner
+    (11, &[ARRIVED, AGAIN], &[MERGED]), // joiner
     (3, &[MERGED], &[BODY, KEY]),       // parser
     (6, &[KEY, HEALTH], &[SERVER]),     // pick
     (8, &[SERVER], &[HEALTH]),          // probe
@@ -76,10 +80,15 @@ fn show(name: &str, graph: &Graph) -> Result<(), Refused> {
 }
 
 fn main() -> Result<(), Refused> {
-    let mut path = Graph::discrete(&WIRES.map(|(_, bits)| bits))?;
+    let mut path = Graph::discrete(&PINS.map(|(_, bits)| bits))?;
     for (kind, sources, targets) in BLOCKS {
         path.new_edge(kind, sources, targets)?;
     }
+    path.unify(RETRY, AGAIN)?;
+    let drawn = path.sizes();
+    println!("drawn: {} pins, {} pair joined", drawn.nodes, drawn.pairs);
+
+    let wires = path.quotient()?;
     show("packet path", &path)?;
 
     let choice = path.cycle_breaking_nodes()?;
@@ -89,7 +98,10 @@ fn main() -> Result<(), Refused> {
         choice.free
     );
     for node in &choice.nodes {
-        println!("  wire {}, {}", node.0, WIRES[node.0 as usize].0);
+        // A wire is named by the first of its pins.
+        let pin = wires.iter().position(|wire| wire == node);
+        let (name, _) = PINS[pin.expect("every wire has a pin")];
+        println!("  wire {}, {name}", node.0);
     }
 
     show("spiderized", &path.spiderize_nodes(&choice.nodes)?)
