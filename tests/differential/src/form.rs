@@ -65,6 +65,8 @@ pub enum Refusal {
     List = 7,
     /// A pending pair, where the operation needs none.
     Pair = 8,
+    /// Two nodes of one class have different labels.
+    Labels = 11,
     /// The result would pass a limit of version 2.
     Result = 9,
     /// An answer buffer is shorter than the answer, or the work room shorter than the call's.

@@ -3,6 +3,7 @@
 pub mod arguments;
 pub mod call;
 pub mod cases;
+pub mod classes;
 pub mod compare;
 pub mod convert;
 pub mod form;

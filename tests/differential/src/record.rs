@@ -27,9 +27,9 @@ const REFUSED: usize = 4;
 /// Of the forms whose places are worked out by hand, each function that reads a graph has one in so many.
 const DEALT: usize = 4;
 
-/// Of arguments picked by hand, those with up to so many bytes in and out are recorded in all calls. Of those with up to so
-/// many more, one of each kind is recorded in the exact call: of those that tell the highest place up to 2, since 0 is told of
-/// much else, the shortest.
+/// Of arguments picked by hand, those with up to so many bytes in and out are recorded in the exact call and in another one. Of
+/// those with up to so many more, one of each kind is recorded in the exact call: of those that tell the highest place up to 2,
+/// since 0 is told of much else, the shortest.
 const SMALL: usize = 300;
 const LARGE: usize = 42_000;
 
@@ -57,6 +57,7 @@ fn kind(arguments: &Arguments, due: Due) -> Kind {
 #[derive(Clone, Copy)]
 enum Which {
     All,
+    ExactAndAnother,
     OneByChance,
     Exact,
 }
@@ -164,7 +165,7 @@ impl List {
             let rank = (Reverse(place), bytes);
             if bytes <= SMALL {
                 small.push(kind);
-                self.put_calls(function, arguments, Which::All, rng);
+                self.put_calls(function, arguments, Which::ExactAndAnother, rng);
             } else if bytes <= LARGE && large.get(&kind).is_none_or(|(least, _)| rank < *least) {
                 large.insert(kind, (rank, arguments));
             }
@@ -198,15 +199,14 @@ impl List {
     ) {
         let outcome = (function.operation.expected)(&arguments);
         let calls = function.calls(arguments, &outcome, rng);
+        let mut by_chance = |from: usize| rng.between(from, calls.len() - 1);
         let chosen = match which {
-            Which::All => 0..calls.len(),
-            Which::OneByChance => {
-                let one = rng.below(calls.len());
-                one..one + 1
-            }
-            Which::Exact => 0..1,
+            Which::All => (0..calls.len()).collect(),
+            Which::ExactAndAnother => vec![0, by_chance(1)],
+            Which::OneByChance => vec![by_chance(0)],
+            Which::Exact => vec![0],
         };
-        for call in &calls[chosen] {
+        for call in chosen.into_iter().map(|i| &calls[i]) {
             self.put_record(
                 function.operation.number,
                 call,
@@ -302,7 +302,9 @@ mod tests {
                 "ohg_empty" => &[(none, one)],
                 "ohg_rewrite" => &[(one, one), (two, two)],
                 "ohg_discrete" | "ohg_identity" | "ohg_singleton" => &[(none, one), (none, two)],
-                "ohg_delete_edges" | "ohg_delete_nodes" => &[(one, one), (two, one), (two, two)],
+                "ohg_delete_edges" | "ohg_delete_nodes" | "ohg_quotient" => {
+                    &[(one, one), (two, one), (two, two)]
+                }
                 _ if operation.refusals.contains(&9) => &[(one, one), (one, two), (two, two)],
                 _ => &[(one, none), (two, none)],
             };

@@ -1,6 +1,7 @@
 //! The stored forms that the calls are tried on, good and bad.
 
 pub mod damage;
+pub mod joined;
 pub mod random;
 pub mod small;
 
@@ -74,6 +75,25 @@ pub fn edge(label: u32, sources: &[u32], targets: &[u32]) -> Edge {
         sources: sources.to_vec(),
         targets: targets.to_vec(),
     }
+}
+
+/// Nodes of these labels with these pairs; edges and global lists have every node, up and down, so that all renaming shows.
+pub fn joined_by(labels: &[u32], pairs: &[(u32, u32)]) -> Drawing {
+    let up: Vec<u32> = (0..labels.len() as u32).collect();
+    let down: Vec<u32> = up.iter().rev().copied().collect();
+    Drawing {
+        labels: labels.to_vec(),
+        edges: vec![edge(9, &up, &down), edge(10, &down, &[])],
+        sources: down,
+        targets: up,
+        pairs: pairs.to_vec(),
+    }
+}
+
+/// The drawing with another label at its node 0.
+pub fn labelled_apart(mut drawing: Drawing) -> Drawing {
+    drawing.labels[0] += 1;
+    drawing
 }
 
 /// P8 with one global source more than version 1 holds.

@@ -1,6 +1,7 @@
 //! Drawings by chance.
 
 use super::damage::damaged;
+use super::joined::label_alike;
 use super::{edge, limits};
 use crate::form::{self, Drawing, Edge, Sizes, SPIDER, VERSION_1, VERSION_2};
 use crate::operation::Group;
@@ -65,7 +66,7 @@ fn short_list(rng: &mut Rng, most: usize) -> usize {
     }
 }
 
-/// A drawing of the wanted sizes; no ids where there are no nodes.
+/// A drawing of the wanted sizes; no ids where there are no nodes. Mostly its pairs can be merged.
 pub fn drawing(rng: &mut Rng, wanted: Sizes) -> Drawing {
     let nodes = wanted.nodes;
     let entries = |n: usize| if nodes == 0 { 0 } else { n };
@@ -80,7 +81,7 @@ pub fn drawing(rng: &mut Rng, wanted: Sizes) -> Drawing {
     } else {
         ends(rng, wanted.edges, entries(wanted.ports))
     };
-    Drawing {
+    let mut drawing = Drawing {
         labels: (0..nodes).map(|_| label(rng)).collect(),
         edges: ends
             .iter()
@@ -95,7 +96,11 @@ pub fn drawing(rng: &mut Rng, wanted: Sizes) -> Drawing {
         pairs: (0..entries(wanted.pairs))
             .map(|_| (rng.below(among) as u32, rng.below(among) as u32))
             .collect(),
+    };
+    if !rng.once_in(4) {
+        label_alike(&mut drawing);
     }
+    drawing
 }
 
 /// Gives a drawing more of one kind than version 1 holds; often just one more, so that little must go for it to fit again.
@@ -118,6 +123,7 @@ pub fn outgrow(rng: &mut Rng, drawing: &mut Drawing) {
             lengthen(&mut left, most.pairs);
             lengthen(&mut right, most.pairs);
             drawing.pairs = left.into_iter().zip(right).collect();
+            label_alike(drawing);
         }
         30 => {
             let edges = drawing.edges.len().max(most.edges + more);

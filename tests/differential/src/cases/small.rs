@@ -1,6 +1,7 @@
 //! All drawings of some small kinds.
 
 use super::edge;
+use super::joined::label_alike;
 use super::random::{label, some_ids};
 use crate::form::{Drawing, Edge, SPIDER};
 use crate::rng::Rng;
@@ -99,7 +100,7 @@ fn edges(nodes: u32, ports: usize) -> Vec<Edge> {
 }
 
 /// All graphs of up to so many nodes, so many edges and so many ports an edge, in every order of edges and ports.
-/// Labels, spiders and global lists are left to chance, and so are pairs where they are wanted.
+/// Labels, spiders and global lists are left to chance, and so are pairs where they are wanted, which mostly can be merged.
 pub fn graphs(
     [nodes, most_edges, ports]: [usize; 3],
     pairs: bool,
@@ -130,11 +131,43 @@ fn dressed(rng: &mut Rng, nodes: usize, mut edges: Vec<Edge>, pairs: bool) -> Dr
     let (sources, targets) = (short_list(3), short_list(3));
     let most_pairs = if pairs { 2 } else { 0 };
     let (left, right) = (short_list(most_pairs), short_list(most_pairs));
-    Drawing {
+    let mut drawing = Drawing {
         labels: (0..nodes).map(|_| label(rng)).collect(),
         edges,
         sources,
         targets,
         pairs: left.into_iter().zip(right).collect(),
+    };
+    if !rng.once_in(4) {
+        label_alike(&mut drawing);
     }
+    drawing
+}
+
+/// All drawings of up to so many nodes, each of one of two labels, with up to so many pairs. Their two edges, of up to two
+/// sources and two targets each, and the global lists are left to chance.
+pub fn joined([nodes, most_pairs]: [usize; 2], mut rng: Rng) -> impl Iterator<Item = Drawing> {
+    let all = (0..=nodes).flat_map(move |nodes| {
+        let pairs = up_to(most_pairs, &pairs_of(nodes as u32));
+        (0..pairs.len() << nodes).map(move |k| {
+            let mut digits = k;
+            let pairs = pairs[place(&mut digits, pairs.len())].clone();
+            let labels = (0..nodes).map(|_| 6 + place(&mut digits, 2) as u32);
+            (labels.collect::<Vec<_>>(), pairs)
+        })
+    });
+    all.map(move |(labels, pairs)| {
+        let nodes = labels.len();
+        let most_ids = nodes.min(2);
+        let mut ids = || {
+            let n = rng.between(0, most_ids);
+            some_ids(&mut rng, n, nodes)
+        };
+        let edges = [(); 2].map(|_| edge(9, &ids(), &ids())).to_vec();
+        Drawing {
+            labels,
+            pairs,
+            ..dressed(&mut rng, nodes, edges, false)
+        }
+    })
 }

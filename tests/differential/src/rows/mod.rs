@@ -3,6 +3,7 @@
 mod building;
 pub mod choice;
 mod deleting;
+mod merging;
 pub mod once_fed;
 mod reading;
 pub mod spidering;
@@ -15,6 +16,7 @@ pub const GROUPS: &[Group] = &[
     reading::GROUP,
     building::GROUP,
     deleting::GROUP,
+    merging::GROUP,
     choice::GROUP,
     once_fed::GROUP,
     spidering::GROUP,

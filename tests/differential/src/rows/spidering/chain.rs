@@ -1,4 +1,4 @@
-//! Three calls one after the other, each on what the port answered before: choose, spiderize what was chosen, and ask
+//! Four calls one after the other, each on what the port answered before: merge, choose, spiderize what was chosen, and ask
 //! for loops. There must be none.
 
 use super::GROUP;
@@ -13,6 +13,7 @@ pub const SHARE: u64 = 1;
 const CYCLE_BREAKING_NODES: u8 = 14;
 const SPIDERIZE_NODES: u8 = 16;
 const NO_LOOP: u8 = 17;
+const QUOTIENT: u8 = 19;
 
 /// Follows the chain on the graphs that spiderizing is tried on, large and small, and on more by chance.
 pub fn follow(run: &mut Run, amount: Amount) {
@@ -28,6 +29,11 @@ pub fn follow(run: &mut Run, amount: Amount) {
 }
 
 fn follow_on(run: &mut Run, form: &[u8]) {
+    let graph = Arguments::new(&[], &[form]);
+    let Some(merged) = answered(run, QUOTIENT, graph) else {
+        return;
+    };
+    let form = &merged.written[0];
     let graph = Arguments::new(&[], &[form]);
     let Some(chosen) = answered(run, CYCLE_BREAKING_NODES, graph) else {
         return;

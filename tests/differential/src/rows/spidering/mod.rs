@@ -1,20 +1,22 @@
-//! Spiderizing.
+//! Spiderizing, which merges first.
 
 pub mod chain;
 mod picked;
 
-use super::choice::{self, families, unpaired};
+use super::choice::{self, families};
 use crate::arguments::{graph_alone, graph_and_node_list};
 use crate::call::{Arguments, Outcome};
-use crate::cases::{self, small};
+use crate::cases::joined::{join, SHAPES};
+use crate::cases::{self, plain, small};
 use crate::convert::Graph;
-use crate::form::{self, Drawing, Version, VERSION_1, VERSION_2};
+use crate::form::{self, Drawing, Refusal, Version, VERSION_1, VERSION_2};
 use crate::operation::Parameter::{Answered, Input, Room};
 use crate::operation::{Forms, Group, Operation};
 use crate::rng::Rng;
 use crate::steps::{graph, made, node_list};
 use oracle::lax::spider::WithSpider;
 use oracle::lax::OpenHypergraph;
+use oracle::strict::vec::FiniteFunction;
 
 pub const GROUP: Group = Group {
     name: "spidering",
@@ -32,7 +34,7 @@ const OPERATIONS: &[Operation] = &[
         number: 15,
         name: "ohg_spiderize",
         parameters: &[Input, Answered, Room],
-        refusals: &[1, 2, 3, 4, 5, 6, 13, 8, 9, 10],
+        refusals: &[1, 2, 3, 4, 5, 6, 13, 11, 9, 10],
         picked: picked::spiderize,
         arguments: graph_alone,
         expected: spiderize,
@@ -41,7 +43,7 @@ const OPERATIONS: &[Operation] = &[
         number: 16,
         name: "ohg_spiderize_nodes",
         parameters: &[Input, Input, Answered, Room],
-        refusals: &[1, 2, 3, 4, 5, 6, 13, 7, 8, 9, 10],
+        refusals: &[1, 2, 3, 4, 5, 6, 13, 7, 11, 9, 10],
         picked: picked::spiderize_nodes,
         arguments: graph_and_node_list,
         expected: spiderize_nodes,
@@ -49,34 +51,55 @@ const OPERATIONS: &[Operation] = &[
 ];
 
 fn spiderize(arguments: &Arguments) -> Outcome {
-    let graph = unpaired(arguments)?;
-    let spiderized = graph.spiderize().expect("nothing is merged");
-    made(&flattened(spiderized), 0)
+    explicit(graph(arguments)?.spiderize())
 }
 
-/// 7 comes before 8.
+/// 7 comes before 11: ids are looked at before anything is merged, and are those of the graph that was read.
 fn spiderize_nodes(arguments: &Arguments) -> Outcome {
-    let nodes = node_list(arguments, 1, &graph(arguments)?)?;
-    let graph = unpaired(arguments)?;
-    let spiderized = graph.spiderize_nodes(&nodes).expect("nothing is merged");
-    made(&flattened(spiderized), 0)
+    let graph = graph(arguments)?;
+    let nodes = node_list(arguments, 1, &graph)?;
+    explicit(graph.spiderize_nodes(&nodes))
+}
+
+/// A graph of the original's after spiderizing.
+pub type Spiderized = OpenHypergraph<u32, WithSpider<WithSpider<u32>>>;
+
+/// 11, where the original could not merge, then 9.
+fn explicit(spiderized: Result<Spiderized, FiniteFunction>) -> Outcome {
+    let graph = spiderized.map_err(|_| Refusal::Labels.nowhere())?;
+    made(&flattened(graph), 0)
 }
 
 /// What spiderizing gives, without the second `WithSpider`: an edge that was a spider stays one.
-pub fn flattened(graph: OpenHypergraph<u32, WithSpider<WithSpider<u32>>>) -> Graph {
+pub fn flattened(graph: Spiderized) -> Graph {
     graph.map_edges(|label| match label {
         WithSpider::Operation(inner) => inner,
         WithSpider::Spider => WithSpider::Spider,
     })
 }
 
-/// Forms at the limits, without pairs, and of each family one about as large as may be spiderized within version 1, and one
-/// within version 2.
+/// Forms at the limits, without pairs and with them; in either version of each family one about as large as may be spiderized
+/// within it, as it is and joined, and as many nodes and pairs as it holds, of each shape.
 fn fixed(rng: &mut Rng) -> Vec<Vec<u8>> {
     let mut forms = cases::at_limits(rng, false);
+    forms.extend(cases::at_limits(rng, true));
     for version in [VERSION_1, VERSION_2] {
-        let drawings = families::FAMILIES.map(|family| family(rng, most_spiderized(version)));
-        forms.extend(drawings.iter().map(form::write));
+        for family in families::FAMILIES {
+            let mut drawing = family(rng, most_spiderized(version));
+            forms.push(form::write(&drawing));
+            join(rng, &mut drawing);
+            forms.push(form::write(&drawing));
+        }
+        let most = version.most;
+        for shape in SHAPES {
+            let drawing = Drawing {
+                sources: vec![0],
+                targets: vec![most.nodes as u32 - 1],
+                pairs: shape(rng, most.nodes, most.pairs),
+                ..plain(most.nodes, &[])
+            };
+            forms.push(form::write(&drawing));
+        }
     }
     forms
 }
@@ -86,15 +109,19 @@ fn most_spiderized(version: Version) -> usize {
     version.most.edges / 3
 }
 
-/// All graphs of up to three nodes, two edges and three ports an edge; each is tried with all subsets of its nodes. And
-/// the largest forms.
+/// All graphs of up to three nodes, two edges and three ports an edge, without pairs and with pairs by chance; all drawings of
+/// up to three nodes of two labels with up to three pairs. Each is tried with all subsets of its nodes. And the largest forms.
 fn every(mut rng: Rng) -> Forms {
-    let largest = cases::at_largest(Rng::new(rng.number()), false);
-    let small = small::graphs([3, 2, 3], false, rng).map(|drawing| form::write(&drawing));
-    Box::new(largest.chain(small))
+    let mut another = || Rng::new(rng.number());
+    let largest = [false, true].map(|pairs| cases::at_largest(another(), pairs));
+    let graphs = [false, true].map(|pairs| small::graphs([3, 2, 3], pairs, another()));
+    let joined = small::joined([3, 3], another());
+    let small = graphs.into_iter().flatten().chain(joined);
+    let small = small.map(|drawing| form::write(&drawing));
+    Box::new(largest.into_iter().flatten().chain(small))
 }
 
-/// Large drawings are often kept so small that all of their nodes can be spiderized.
+/// Large drawings are often kept so small that all of their nodes can be spiderized; one in three is joined.
 fn drawing(rng: &mut Rng, most: usize) -> Drawing {
     let version = rng.pick(&[VERSION_1, VERSION_2]);
     let most = if rng.once_in(4) {
@@ -102,14 +129,18 @@ fn drawing(rng: &mut Rng, most: usize) -> Drawing {
     } else {
         most.min(most_spiderized(version) / 2)
     };
-    choice::drawing(rng, most)
+    let mut drawing = choice::drawing(rng, most);
+    if rng.once_in(3) {
+        join(rng, &mut drawing);
+    }
+    drawing
 }
 
 #[cfg(test)]
 mod tests {
     use super::*;
-    use crate::cases::{edge, p2, p4, plain};
-    use crate::form::{id_bytes, Edge, Refusal, SPIDER};
+    use crate::cases::{edge, labelled_apart, p2, p4, p9};
+    use crate::form::{id_bytes, Edge, SPIDER};
 
     fn answered(outcome: Outcome) -> Drawing {
         form::read(&outcome.expect("it is answered").written[0]).expect("it is a good form")
@@ -156,5 +187,35 @@ mod tests {
         let p5 = answered(spiderize(&Arguments::new(&[], &[&form::write(&p4())])));
         assert_eq!(p5.edges, [spider(&[1], &[0]), spider(&[0], &[2])]);
         assert_eq!((p5.sources, p5.targets), (vec![1], vec![2]));
+    }
+
+    /// P9's nodes are one, so either of them, both and all give the same.
+    #[test]
+    fn p9_is_merged_first() {
+        let form = form::write(&p9());
+        let all = answered(spiderize(&Arguments::new(&[], &[&form])));
+        let spiders = [spider(&[], &[0, 1, 3]), spider(&[0, 2, 4], &[])];
+        assert_eq!(all.edges[..2], [edge(9, &[1], &[2]), edge(10, &[3], &[4])]);
+        assert_eq!(all.edges[2..], spiders);
+        assert_eq!((all.labels, all.pairs), (vec![7; 5], vec![]));
+        for list in [vec![0], vec![1], vec![1, 0, 1]] {
+            let arguments = Arguments::new(&[], &[&form, &id_bytes(list, 2)]);
+            assert_eq!(answered(spiderize_nodes(&arguments)).edges, all.edges);
+        }
+        let none = spiderize_nodes(&Arguments::new(&[], &[&form, &[]]));
+        assert_eq!(answered(none).labels, [7]);
+    }
+
+    #[test]
+    fn labels_that_differ_are_refused_after_the_list() {
+        let form = form::write(&labelled_apart(p9()));
+        let refused = |list: &[u8]| {
+            let outcome = spiderize_nodes(&Arguments::new(&[], &[&form, list]));
+            outcome.map_or_else(|refused| refused.refusal as u8, |_| 0)
+        };
+        assert_eq!(refused(&id_bytes([0, 2], 2)), 7);
+        assert_eq!(refused(&[0]), 7);
+        assert_eq!(refused(&id_bytes([0, 1], 2)), 11);
+        assert_eq!(refused(&[]), 11);
     }
 }
