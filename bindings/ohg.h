@@ -179,15 +179,15 @@ uint64_t ohg_delete_nodes(const uint8_t *src, size_t src_len, const uint8_t *ids
 uint64_t ohg_quotient(const uint8_t *src, size_t src_len, uint8_t *out, size_t out_len, uint8_t *map, size_t map_len, uint8_t *room,
                       size_t room_len);
 
-/* The graph, its joined nodes merged as by ohg_quotient, with the implicit wiring of all its nodes made explicit: every entry of a node gets a fresh node with its label, numbered on from
- * the node count, and two spiders are appended for each node, which join what the fresh nodes took apart. A spider already there stays one.
+/* The graph with the implicit wiring of all its nodes made explicit, after its joined nodes were merged as by ohg_quotient: every entry of a
+ * node gets a fresh node with its label, numbered on from the node count, and two spiders are appended for each node, which join what the
+ * fresh nodes took apart. A spider already there stays one.
  * a: bytes written. b: 0. Room: OHG_ROOM_SPIDERIZE. Refusals: 10 (room), 1 to 6, 13, 11, 9, 10. */
 uint64_t ohg_spiderize(const uint8_t *src, size_t src_len, uint8_t *out, size_t out_len, uint8_t *room, size_t room_len);
 
-/* The same of the nodes in a list, whose ids are those before merging; repeats and order have no effect. Spiderizing the nodes that ohg_cycle_breaking_nodes lists leaves no
- * directed cycle.
- * a: bytes written. b: 0. Room: OHG_ROOM_SPIDERIZE_NODES. Refusals: 10 (room), 1 to 6, 13, 7, 11, 9,
- * 10. */
+/* The same of the nodes in a list, whose ids are those before merging; repeats and order have no effect. Spiderizing the nodes that
+ * ohg_cycle_breaking_nodes lists leaves no directed cycle.
+ * a: bytes written. b: 0. Room: OHG_ROOM_SPIDERIZE_NODES. Refusals: 10 (room), 1 to 6, 13, 7, 11, 9, 10. */
 uint64_t ohg_spiderize_nodes(const uint8_t *src, size_t src_len, const uint8_t *ids, size_t ids_len, uint8_t *out, size_t out_len,
                              uint8_t *room, size_t room_len);
 
