@@ -13,7 +13,7 @@ use lib.Seq.{sets}
 use borrow.Author.Tests.{eqb-true, eqb-false, lt-ltb, ltb-true, ltb-false}
 use Rattle.graph.specs.Lists.{among, keep, range}
 use Rattle.le.specs.Le.{Below, Apart}
-use Rattle.le.specs.Rows.{Holds, entry, span, puts}
+use Rattle.le.specs.Rows.{Holds, entry, puts}
 use Rattle.links.specs.Links.{cellRow, cellCount, cells, unlisted, isListed, Heads}
 use Rattle.graph.proofs.Spiders.{keep-append}
 use Rattle.le.proofs.Frames.{outside-sets}

@@ -19,7 +19,7 @@ use Rattle.form.specs.declared.Step.the-variants as step
 use Rattle.form.specs.declared.Step.{Step}
 use Rattle.form.proofs.Answers.{gives-refused, work-short, work-enough, room-enough}
 use Rattle.form.proofs.Stored.{unread, stored}
-use Rattle.graph.specs.Answer.{Answer, Result, answered, refused, _else_, refusal}
+use Rattle.graph.specs.Answer.{Answer, Result, refused, _else_, refusal}
 use Rattle.graph.specs.Calls.{Next, inWorkRoom, onGraph, roomSpiderize}
 use Rattle.graph.specs.Graph.{Graph, Format}
 use Rattle.graph.specs.Lists.{among, member, range}

@@ -8,7 +8,7 @@ use native.Mathlib.Nat.{mul-le-mul-right}
 use native.Mathlib.Omega.{arith}
 use borrow.Author.Tests.{leb-true}
 use lib.Dec.{leb}
-use lib.ListN.{length, getD, take, length-append, length-map, replicate}
+use lib.ListN.{length, getD, take, length-append, replicate}
 use Rattle.form.specs.Form.{sizesOf, countsOf, Low, labelsOf, bodyOf, bodySize, listsFrom, edgeIn}
 use Rattle.form.specs.Stored.{graphOf, Stored}
 use Rattle.form.specs.declared.EdgeAt.{EdgeAt}
@@ -25,20 +25,20 @@ use Rattle.le.specs.declared.Row.{Row}
 use Rattle.links.specs.Links.{cells, isListed, Linked, spiderRow, bothRows, spiders}
 use Rattle.write.specs.Write.{countedAs, fitted, headed, drawn, Put, Room}
 use Rattle.spider.specs.Rewriting.{idsAt, labelsIn, Ids, labelled, Fresh, more, moreTwo, moreEdges, Pass, Rewrites, EdgesPassed, Prepared, spidered, fronted, Plan, Copied, Laid}
-use Rattle.graph.proofs.Kept.{Parts, parts}
+use Rattle.graph.proofs.Kept.{parts}
 use Rattle.graph.proofs.Laws.{joined-append}
 use Rattle.graph.proofs.ReadWrite.{fits-within}
 use Rattle.graph.proofs.Versions.{fitting-first, fitting-second}
 use Rattle.graph.proofs.Rows.{length-edge-rows, length-body, edge-rows-below, take-edges}
 use Rattle.graph.proofs.Spiders.{after-append}
 use Rattle.graph.proofs.Sizes.{Spiderized, spiderize-sizes}
-use Rattle.le.proofs.Numbers.{below-append, below-front, below-back, below-widen}
+use Rattle.le.proofs.Numbers.{below-append, below-widen}
 use Rattle.le.proofs.Rows.{holds-less, holds-same, length-puts, puts-append, length-span}
 use Rattle.links.proofs.Cells.{keep-more}
 use Rattle.links.proofs.Chains.{puts-before, puts-swap}
 use Rattle.write.proofs.Results.{room-same, length-headed}
 use Rattle.le.proofs.InPlace.{span-ahead, span-puts, puts-there, puts-over}
-use Rattle.spider.proofs.Lists.{ids-next, EdgeRead, edge-row, edge-held, edge-read, all-edges, edges-counted, keep-few, freshened-append, length-labelled, two-whole, rows-long, more-sources, more-targets, more-others}
+use Rattle.spider.proofs.Lists.{ids-next, EdgeRead, edge-row, edge-held, edge-read, all-edges, keep-few, freshened-append, length-labelled, two-whole, rows-long, more-sources, more-targets, more-others}
 use Rattle.spider.proofs.Passes.{linked-same, labels-on, pass-none, numbered-part, later, pass-edge, labels-kept, rest-kept, pass-same}
 
 -- ---- the parts
@@ -295,27 +295,9 @@ module _ {g : Graph} {nodes n : ℕ} {y : Sizes} {room₀ out₀ : List ℕ} (h 
       → Rewrites y nodes (listsFrom y) (y .sources + y .targets) (moreTwo (y .sources) 0 3) next room out room′ out′ next′ → AllRewritten g nodes y (isListed nodes (cells room₀)) out₀ (cells room′) out′ next′
   lists-passed room room′ p q = all-rewritten (h .plan) p (pass-same (moreTwo (y .sources) 0 3) (labels-kept p (omega arith) ∙ h .copied .labels) refl q) (lists-stand room p)
 
--- ---- all labels written
+-- ---- all that was written
 
-module _ {b : List ℕ} {z y : Sizes} {room : List ℕ} (st : Stored b z) (p : Plan (graphOf b) (z .nodes) y room) (old : List ℕ) where
-  pub front-done : {o₁ o₂ o₃ o₄ : List ℕ} {from to : Row} → from ≡ labelsOf z → to ≡ labelsOf y → o₁ ≡ headed old y → o₂ ≡ puts o₁ to 0 (span b from 0 (z .nodes))
-      → o₃ ≡ puts o₂ to (y .nodes) (span b from (z .nodes) (z .edges)) → o₄ ≡ puts o₃ to (y .nodes + z .edges) (replicate (y .edges - z .edges) spider) → o₄ ≡ fronted old y (graphOf b) (spidered (graphOf b) (z .nodes) (cells room))
-  unfolding fronted
-  front-done {o₁} {o₂} {o₃} {o₄} {from} is-from is-to e₁ e₂ e₃ e₄ =
-      let m = isListed (z .nodes) (cells room) in
-      let g = graphOf b in
-      let l = labelsOf y in
-      let rows = stored-rows st in
-      let labels = map (λ (e : Edge). e .label) (g .edges) in
-      let n = 2 * length (keep m (range 0 (length (g .labels)))) in
-      let count = edges-counted st in
-      let many : y .edges - z .edges ≡ n = omega (arith, planned p .edges) in
-      let edges : z .edges ≡ length labels = sym count ∙ sym (length-map (g .edges) (λ (e : Edge). e .label)) in
-      let first : o₂ ≡ puts (headed old y) l 0 (g .labels) = e₂ ∙ (λ i. puts (e₁ i) (is-to i) 0 (span b (is-from i) 0 (z .nodes))) ∙ ap (puts (headed old y) l 0) (rows .labels) in
-      let second : o₃ ≡ puts o₂ l (y .nodes) labels = e₃ ∙ (λ i. puts o₂ (is-to i) (y .nodes) (span b (is-from i) (z .nodes) (z .edges))) ∙ ap (puts o₂ l (y .nodes)) (rows .edge-labels) in
-      e₄ ∙ (λ i. puts (second i) (is-to i) (y .nodes + edges i) (replicate (many i) spider)) ∙ puts-append o₂ l (y .nodes) labels (replicate n spider) ∙ (λ i. puts (first i) l (y .nodes) (sym (edge-labels m g) i))
-
--- with the labels of the fresh nodes between them, and all counts and ids
+-- the header and labels, with the labels of the fresh nodes between them, and all counts and ids
 pub drawn-done : {g : Graph} {nodes : ℕ} {y : Sizes} {room : List ℕ} (p : Plan g nodes y room) (old : List ℕ)
     → puts (puts (fronted old y g (spidered g nodes (cells room))) (labelsOf y) nodes (labelled (g .labels) (isListed nodes (cells room)) (entries g))) (bodyOf y) 0 (body (spidered g nodes (cells room)))
     ≡ drawn old y (labelRow (spidered g nodes (cells room))) (body (spidered g nodes (cells room)))

@@ -2,8 +2,8 @@
 -- Assumes nothing.
 use mathlib.Core.Bool.{Bool}
 use mathlib.Core.List.{List, [], _++_}
-use mathlib.Core.Path.{_≡_, sym, ap, _∙_, subst}
-use Prim.Native.Nat.{ℕ, _+_, _-_, _*_, _≤_, _<_}
+use mathlib.Core.Path.{_≡_, sym, ap, _∙_}
+use Prim.Native.Nat.{ℕ, _+_, _-_, _*_, _≤_}
 use native.Mathlib.Omega.{arith}
 use lib.ListN.{length, drop, length-drop}
 use lib.Seq.{length-take-le}
@@ -17,8 +17,8 @@ use Rattle.classes.specs.Forest.{Tabled, MapMade}
 use Rattle.graph.specs.Answer.{answered}
 use Rattle.graph.specs.Calls.{idList, roomSpiderize, spiderizeStep, spiderizeAllStep}
 use Rattle.graph.specs.Form.{edgeRow}
-use Rattle.graph.specs.Graph.{Graph, Format, largest}
-use Rattle.graph.specs.Lists.{joined, among, range}
+use Rattle.graph.specs.Graph.{Graph, Format, largest, edgeEntries}
+use Rattle.graph.specs.Lists.{keep, joined, among, range}
 use Rattle.graph.specs.Merge.{Merged, looked, merged, quotient}
 use Rattle.graph.specs.Spider.{spiderizedAt, spiderize}
 use Rattle.graph.specs.Versions.{fitting}
@@ -27,10 +27,9 @@ use Rattle.graph.proofs.Rows.{length-edge-rows}
 use Rattle.graph.proofs.Spidered.{spiderize-0, spiderize-all-0}
 use Rattle.le.specs.Le.{Below, words}
 use Rattle.links.specs.Links.{cells, cellCount, isListed, Linked}
-use Rattle.quotient.specs.Merging.{Mapped}
 use Rattle.quotient.proofs.Calls.{told-answered}
 use Rattle.quotient.proofs.Renamed.{same-looked}
-use Rattle.spider.specs.Rewriting.{spidered, Plan, tableAt, tableOf, Lists, mergedOf, spideredOf, Ready, copiedOf}
+use Rattle.spider.specs.Rewriting.{Plan, tableAt, tableOf, Lists, mergedOf, spideredOf, Ready}
 use Rattle.spider.proofs.Merging.{merged-few}
 use Rattle.spider.proofs.Parts.{planned}
 
@@ -45,16 +44,14 @@ module _ {b : List ℕ} {z : Sizes} (st : Stored b z) (none : z .pairs ≡ 0) wh
   pub plain-nodes : {nodes : ℕ} → nodes ≡ length (mergedOf b .labels) → nodes ≡ z .nodes
   plain-nodes e = e ∙ ap (λ (g : Graph). length (g .labels)) plain ∙ sym (ap (λ (y : Sizes). y .nodes) (st .sizes))
 
-  -- so what is said of the graph itself is said of the merged one
-  module _ {nodes : ℕ} (count : nodes ≡ length (mergedOf b .labels)) where
-    pub plain-sizes : (W : List ℕ) → sizesOf (fitting (spidered (graphOf b) (z .nodes) W)) (spidered (graphOf b) (z .nodes) W) ≡ sizesOf (fitting (spidered (mergedOf b) nodes W)) (spidered (mergedOf b) nodes W)
-    plain-sizes W = λ i. sizesOf (fitting (spidered (sym plain i) (sym (plain-nodes count) i) W)) (spidered (sym plain i) (sym (plain-nodes count) i) W)
-
-    pub plain-copied : (old : List ℕ) (y : Sizes) (W : List ℕ) → copiedOf old y (graphOf b) (spidered (graphOf b) (z .nodes) W) ≡ copiedOf old y (mergedOf b) (spidered (mergedOf b) nodes W)
-    plain-copied old y W = λ i. copiedOf old y (sym plain i) (spidered (sym plain i) (sym (plain-nodes count) i) W)
-
-    pub plain-plan : {y : Sizes} {table : List ℕ} → Plan (mergedOf b) nodes y table → Plan (graphOf b) (z .nodes) y table
-    plain-plan {y} {table} p = subst (λ (g : Graph). Plan g (z .nodes) y table) plain (subst (λ (n : ℕ). Plan (mergedOf b) n y table) (plain-nodes count) p)
+  -- so its entries are the merged graph's
+  pub plain-fresh : {nodes : ℕ} → nodes ≡ length (mergedOf b .labels) → (W : List ℕ)
+      → length (keep (isListed (z .nodes) W) (edgeEntries (graphOf b .edges))) + length (keep (isListed (z .nodes) W) (graphOf b .sources ++ graphOf b .targets))
+      ≡ length (keep (isListed nodes W) (edgeEntries (mergedOf b .edges))) + length (keep (isListed nodes W) (mergedOf b .sources ++ mergedOf b .targets))
+  plain-fresh count W = λ i.
+      let t = isListed (sym (plain-nodes count) i) W in
+      let g = sym plain i in
+      length (keep t (edgeEntries (g .edges))) + length (keep t (g .sources ++ g .targets))
 
 -- ---- the room
 

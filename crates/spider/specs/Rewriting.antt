@@ -152,6 +152,12 @@ mergedOf b = merged (graphOf b) .graph
 abbrev pub spideredOf : List ℕ → ℕ → List ℕ → Graph
 spideredOf b nodes room = spidered (mergedOf b) nodes (cells (tableOf room))
 
+-- how many of that graph's entries are of nodes that the table lists
+abbrev pub freshOf : List ℕ → ℕ → List ℕ → ℕ
+freshOf b nodes room =
+    let listed = isListed nodes (cells (tableOf room)) in
+    length (keep listed (edgeEntries (mergedOf b .edges))) + length (keep listed (mergedOf b .sources ++ mergedOf b .targets))
+
 -- a stored graph whose map of merging stands in a room; the table behind it lists nodes of the merged graph, which has so many
 pub record Ready (b : List ℕ) (z : Sizes) (nodes : ℕ) (room : List ℕ) : Type 0 where
   pub mapped : Mapped b z room

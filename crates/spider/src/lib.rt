@@ -10,19 +10,19 @@ ghost use lib.Seq.{sets};
 ghost use Rattle.le.specs.Le.{Below, words};
 ghost use Rattle.le.specs.Rows.{Holds, entry, span, puts};
 ghost use Rattle.graph.specs.Lists.{keep, joined, among};
-ghost use Rattle.graph.specs.Graph.{Graph, Format, Proper, largest, spider, edgeEntries};
+ghost use Rattle.graph.specs.Graph.{Graph, Format, largest, spider, edgeEntries};
 ghost use Rattle.graph.specs.Form.{edgeRow, body};
 ghost use Rattle.graph.specs.Answer.{Answer, answered};
 ghost use Rattle.graph.specs.Spider.{entries};
 ghost use Rattle.graph.specs.Merge.{looked, merged};
 ghost use Rattle.graph.specs.Calls.{Next, onGraph, roomSpiderize, spiderizeCall, spiderizeNodesCall};
 ghost use Rattle.graph.specs.Versions.{fitting};
-ghost use Rattle.form.specs.Form.{sizesOf, labelsOf, bodyOf, listsFrom, Gives};
+ghost use Rattle.form.specs.Form.{sizesOf, Low, labelsOf, bodyOf, listsFrom, Gives};
 ghost use Rattle.form.specs.Stored.{graphOf, formatOf, Stored};
 ghost use Rattle.write.specs.Write.{Room};
 ghost use Rattle.quotient.specs.Merging.{Mapped};
 ghost use Rattle.links.specs.Links.{cells, cellCount, isListed, Heads};
-ghost use Rattle.spider.specs.Rewriting.{idsAt, Ids, labelled, more, kindAt, moreTwo, EdgesPassed, Rewrites, Prepared, spidered, fronted, Plan, Laid, tableOf, Lists, mergedOf, spideredOf, Ready, copiedOf};
+ghost use Rattle.spider.specs.Rewriting.{idsAt, Ids, labelled, more, kindAt, moreTwo, EdgesPassed, Rewrites, Prepared, spidered, fronted, Plan, Laid, tableOf, Lists, mergedOf, spideredOf, freshOf, Ready, copiedOf};
 use form::EdgeAt;
 use form::Outcome;
 use form::Reading;
@@ -174,20 +174,6 @@ fn put_spider_labels(out: &mut [u8], r: Row, k: usize, n: usize)
     }
 }
 
-// The header of the result, and all its labels but those of the fresh nodes, which the rewriting puts: those of the nodes, of the edges and of the spiders.
-fn put_front(src: &[u8], z: Sizes, y: Sizes, out: &mut [u8])
-    requires { ⌜ Stored (now src) z × Room (now out) y × ((table : List ℕ) × Plan (graphOf (now src)) (z .nodes) y table) ⌝ }
-    ensures { λ _. ⌜ ((table : List ℕ) → Plan (graphOf (now (src .entry))) (z .nodes) y table
-        → now (out .exit) ≡ fronted (now (out .entry)) y (graphOf (now (src .entry))) (spidered (graphOf (now (src .entry))) (z .nodes) (cells table))) ⌝ }
-{
-    write::put_header(out, y);
-    let from = form::label_row(z);
-    let to = form::label_row(y);
-    le::copy_numbers(out, to, 0, src, from, 0, z.nodes);
-    le::copy_numbers(out, to, y.nodes, src, from, z.nodes, z.edges);
-    put_spider_labels(out, to, y.nodes + z.edges, y.edges - z.edges);
-}
-
 // The counts and ids of the edges and of the global lists, as they were read, to where they stand in the result.
 fn put_entries(src: &[u8], z: Sizes, y: Sizes, out: &mut [u8])
     requires { ⌜ Stored (now src) z × Room (now out) y × (listsFrom z ≤ listsFrom y) × (z .sources ≡ y .sources) × (z .targets ≡ y .targets) ⌝ }
@@ -221,25 +207,6 @@ fn rewrite_all(y: Sizes, nodes: usize, edges: usize, rows: usize, room: &mut [u8
     rewrite_lists(y, nodes, next, room, out);
     let row = form::body_row(y);
     links::put_spiders(room, nodes, out, row, rows);
-}
-
-// The sizes of a graph without pairs, spiderized at the nodes that a table lists.
-fn plain_sizes(src: &[u8], z: Sizes, table: &[u8]) -> Sizes
-    requires { ⌜ Stored (now src) z × (z .nodes * 4 ≤ cellCount (now table)) × ((ids : List ℕ) × (isListed (z .nodes) (cells (now table)) ≡ among ids)) ⌝ }
-    ensures { λ y. ⌜ y ≡ sizesOf (fitting (spidered (graphOf (now (src .entry))) (z .nodes) (cells (now (table .entry))))) (spidered (graphOf (now (src .entry))) (z .nodes) (cells (now (table .entry)))) ⌝ }
-{
-    let lists = 2 * z.edges + z.ports;
-    let fresh = count_edges(src, z, table)
-        + count_part(src, z, lists, z.sources + z.targets, table);
-    let spiders = 2 * links::count_listed(table, z.nodes);
-    write::sized(
-        z.nodes + fresh,
-        z.edges + spiders,
-        z.ports + (spiders + fresh),
-        z.sources,
-        z.targets,
-        z.pairs,
-    )
 }
 
 // How many of the n entries from index j on are of listed nodes of the merged graph: each is looked up in the map, which is the words of the room.
@@ -276,16 +243,29 @@ fn count_merged_edges(src: &[u8], z: Sizes, room: &[u8], table: &[u8]) -> usize
     count
 }
 
-// The sizes of the merged graph, which has so many nodes, spiderized at the nodes that a table lists. The map is the words of the room.
-fn merged_sizes(src: &[u8], z: Sizes, nodes: usize, room: &[u8], table: &[u8]) -> Sizes
-    requires { ⌜ Mapped (now src) z (now room) × Proper (merged (graphOf (now src)) .graph) × (nodes ≡ length (merged (graphOf (now src)) .graph .labels)) × (nodes * 4 ≤ cellCount (now table))
-        × ((ids : List ℕ) × (isListed nodes (cells (now table)) ≡ among ids)) ⌝ }
-    ensures { λ y. ⌜ y ≡ sizesOf (fitting (spidered (merged (graphOf (now (src .entry))) .graph) nodes (cells (now (table .entry))))) (spidered (merged (graphOf (now (src .entry))) .graph) nodes (cells (now (table .entry)))) ⌝ }
+// How many entries of the merged graph are of nodes that the table behind the map lists: each gets a fresh node. The rows are counted as they are where nothing is to be merged.
+fn count_fresh(src: &[u8], z: Sizes, room: &[u8]) -> usize
+    requires { ⌜ ((nodes : ℕ) × Ready (now src) z nodes (now room)) ⌝ }
+    ensures { λ c. ⌜ (c ≤ z .ports + (z .sources + z .targets)) × ((nodes : ℕ) → Ready (now (src .entry)) z nodes (now (room .entry)) → c ≡ freshOf (now (src .entry)) nodes (now (room .entry))) ⌝ }
 {
+    let at = TABLE;
     let lists = 2 * z.edges + z.ports;
-    let fresh = count_merged_edges(src, z, room, table)
-        + count_merged_part(src, z, lists, z.sources + z.targets, room, table);
-    let spiders = 2 * links::count_listed(table, nodes);
+    let global = z.sources + z.targets;
+    if z.pairs == 0 {
+        return count_edges(src, z, &room[at..]) + count_part(src, z, lists, global, &room[at..]);
+    }
+    count_merged_edges(src, z, room, &room[at..])
+        + count_merged_part(src, z, lists, global, room, &room[at..])
+}
+
+// The sizes of the merged graph, which has so many nodes, spiderized at the nodes that the table behind the map lists.
+fn result_sizes(src: &[u8], z: Sizes, nodes: usize, room: &[u8]) -> Sizes
+    requires { ⌜ Ready (now src) z nodes (now room) ⌝ }
+    ensures { λ y. ⌜ y ≡ sizesOf (fitting (spideredOf (now (src .entry)) nodes (now (room .entry)))) (spideredOf (now (src .entry)) nodes (now (room .entry))) ⌝ }
+{
+    let fresh = count_fresh(src, z, room);
+    let at = TABLE;
+    let spiders = 2 * links::count_listed(&room[at..], nodes);
     write::sized(
         nodes + fresh,
         z.edges + spiders,
@@ -296,14 +276,28 @@ fn merged_sizes(src: &[u8], z: Sizes, nodes: usize, room: &[u8], table: &[u8]) -
     )
 }
 
-// The header of the result, and all its labels but those of the fresh nodes: those of the classes, of the edges and of the spiders.
-fn put_merged_front(src: &[u8], z: Sizes, y: Sizes, room: &[u8], out: &mut [u8])
-    requires { ⌜ Mapped (now src) z (now room) × Room (now out) y × ((nodes : ℕ) × (table : List ℕ) × Plan (merged (graphOf (now src)) .graph) nodes y table) ⌝ }
-    ensures { λ _. ⌜ ((nodes : ℕ) (table : List ℕ) → Plan (merged (graphOf (now (src .entry))) .graph) nodes y table
-        → now (out .exit) ≡ fronted (now (out .entry)) y (merged (graphOf (now (src .entry))) .graph) (spidered (merged (graphOf (now (src .entry))) .graph) nodes (cells table))) ⌝ }
+// The labels of the merged graph's nodes: in one run where nothing is to be merged.
+fn put_node_labels(src: &[u8], z: Sizes, y: Sizes, room: &[u8], out: &mut [u8])
+    requires { ⌜ Mapped (now src) z (now room) × Low y × Holds (now out) (labelsOf y) (length (mergedOf (now src) .labels)) ⌝ }
+    ensures { λ _. ⌜ now (out .exit) ≡ puts (now (out .entry)) (labelsOf y) 0 (mergedOf (now (src .entry)) .labels) ⌝ }
+{
+    if z.pairs == 0 {
+        let from = form::label_row(z);
+        let to = form::label_row(y);
+        le::copy_numbers(out, to, 0, src, from, 0, z.nodes);
+        return;
+    }
+    quotient::put_class_labels(src, z, room, out, y);
+}
+
+// The header of the result, and all its labels but those of the fresh nodes, which the rewriting puts: those of the merged graph's nodes, of the edges and of the spiders.
+fn put_front(src: &[u8], z: Sizes, y: Sizes, room: &[u8], out: &mut [u8])
+    requires { ⌜ Mapped (now src) z (now room) × Room (now out) y × ((nodes : ℕ) × (table : List ℕ) × Plan (mergedOf (now src)) nodes y table) ⌝ }
+    ensures { λ _. ⌜ ((nodes : ℕ) (table : List ℕ) → Plan (mergedOf (now (src .entry))) nodes y table
+        → now (out .exit) ≡ fronted (now (out .entry)) y (mergedOf (now (src .entry))) (spidered (mergedOf (now (src .entry))) nodes (cells table))) ⌝ }
 {
     write::put_header(out, y);
-    quotient::put_class_labels(src, z, room, out, y);
+    put_node_labels(src, z, y, room, out);
     let from = form::label_row(z);
     let to = form::label_row(y);
     le::copy_numbers(out, to, y.nodes, src, from, z.nodes, z.edges);
@@ -329,38 +323,25 @@ fn put_renamed_lists(src: &[u8], z: Sizes, y: Sizes, room: &[u8], out: &mut [u8]
 // The counts and renamed ids of the edges and of the global lists, to where they stand in the result.
 fn put_merged_entries(src: &[u8], z: Sizes, y: Sizes, room: &[u8], out: &mut [u8])
     requires { ⌜ Mapped (now src) z (now room) × Room (now out) y × (listsFrom z ≤ listsFrom y) × (z .sources ≡ y .sources) × (z .targets ≡ y .targets) ⌝ }
-    ensures { λ _. ⌜ now (out .exit) ≡ puts (puts (now (out .entry)) (bodyOf y) 0 (joined edgeRow (merged (graphOf (now (src .entry))) .graph .edges))) (bodyOf y) (listsFrom y)
-        (merged (graphOf (now (src .entry))) .graph .sources ++ merged (graphOf (now (src .entry))) .graph .targets) ⌝ }
+    ensures { λ _. ⌜ now (out .exit) ≡ puts (puts (now (out .entry)) (bodyOf y) 0 (joined edgeRow (mergedOf (now (src .entry)) .edges))) (bodyOf y) (listsFrom y)
+        (mergedOf (now (src .entry)) .sources ++ mergedOf (now (src .entry)) .targets) ⌝ }
 {
     let to = form::body_row(y);
     quotient::put_renamed_edges(src, z, room, out, to);
     put_renamed_lists(src, z, y, room, out);
 }
 
-// The sizes of the merged graph, which has so many nodes, spiderized at the nodes that the table behind the map lists.
-fn result_sizes(src: &[u8], z: Sizes, nodes: usize, room: &[u8]) -> Sizes
-    requires { ⌜ Ready (now src) z nodes (now room) ⌝ }
-    ensures { λ y. ⌜ y ≡ sizesOf (fitting (spideredOf (now (src .entry)) nodes (now (room .entry)))) (spideredOf (now (src .entry)) nodes (now (room .entry))) ⌝ }
-{
-    let at = TABLE;
-    if z.pairs == 0 {
-        return plain_sizes(src, z, &room[at..]);
-    }
-    merged_sizes(src, z, nodes, room, &room[at..])
-}
-
-// The header of the result, and of the merged graph all that stands in it before any entry is rewritten: in runs where nothing is to be merged.
+// The header of the result, and of the merged graph all that stands in it before any entry is rewritten: its counts and ids in runs where nothing is to be merged.
 fn put_copied(src: &[u8], z: Sizes, y: Sizes, room: &[u8], out: &mut [u8])
     requires { ⌜ Mapped (now src) z (now room) × Room (now out) y × ((nodes : ℕ) × (table : List ℕ) × Plan (mergedOf (now src)) nodes y table) ⌝ }
     ensures { λ _. ⌜ ((nodes : ℕ) (table : List ℕ) → Plan (mergedOf (now (src .entry))) nodes y table
         → now (out .exit) ≡ copiedOf (now (out .entry)) y (mergedOf (now (src .entry))) (spidered (mergedOf (now (src .entry))) nodes (cells table))) ⌝ }
 {
+    put_front(src, z, y, room, out);
     if z.pairs == 0 {
-        put_front(src, z, y, out);
         put_entries(src, z, y, out);
         return;
     }
-    put_merged_front(src, z, y, room, out);
     put_merged_entries(src, z, y, room, out);
 }
 

@@ -1,9 +1,7 @@
 -- `spider::put_entries` meets its contract.
 -- Assumes nothing.
-use mathlib.Core.List.{List, _++_}
 use mathlib.Core.Path.{_≡_, sym, ap, _∙_}
-use Prim.Native.Nat.{ℕ, _+_, _≤_}
-use lib.ListN.{length}
+use Prim.Native.Nat.{_+_}
 use denote.Ref.{now}
 use Rattle.form.specs.Form.{bodyOf, listsFrom}
 use Rattle.form.specs.Stored.{graphOf}
@@ -11,7 +9,6 @@ use Rattle.form.proofs.Stored.{stored-rows}
 use Rattle.graph.specs.Form.{edgeRow}
 use Rattle.graph.specs.Lists.{joined}
 use Rattle.le.specs.Rows.{span, puts}
-use Rattle.le.specs.declared.Row.{Row}
 use Rattle.le.proofs.Rows.{holds-less, holds-same}
 use Rattle.spider.specs.Rewriting.{idsAt}
 use Rattle.spider.proofs.Lists.{rows-size, rows-stored}

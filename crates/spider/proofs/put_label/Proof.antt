@@ -1,7 +1,7 @@
 -- `spider::put_label` meets its contract.
 -- Assumes nothing.
 use mathlib.Core.List.{[], _∷_}
-use mathlib.Core.Path.{_≡_, ap, _∙_}
+use mathlib.Core.Path.{ap, _∙_}
 use denote.Ref.{now}
 use Rattle.le.specs.Rows.{entry, puts}
 use Rattle.le.specs.declared.Row.{Row}

@@ -1,13 +1,10 @@
 -- `spider::put_merged_entries` meets its contract.
 -- Assumes nothing.
-use mathlib.Core.List.{List, _++_}
-use mathlib.Core.Path.{_≡_, _∙_}
-use lib.ListN.{length}
+use mathlib.Core.Path.{_∙_}
 use denote.Ref.{now}
 use Rattle.le.proofs.Rows.{holds-less}
 use Rattle.write.proofs.Results.{room-same}
 use Rattle.spider.proofs.Merging.{merged-entries}
-use borrow.Author.Needs.{needs}
 use native.Mathlib.Omega.{arith}
 use Rattle.spider.proofs.put_merged_entries.Statement.{statement}
 use Rattle.spider.proofs.put_merged_entries.Tie as tie

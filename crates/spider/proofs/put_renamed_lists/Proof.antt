@@ -1,9 +1,8 @@
 -- `spider::put_renamed_lists` meets its contract.
 -- Assumes nothing.
-use mathlib.Core.List.{List, [], _∷_, _++_}
+use mathlib.Core.List.{List, [], _∷_}
 use mathlib.Core.Path.{_≡_, refl, sym, ap, _∙_}
 use Prim.Native.Nat.{ℕ, _+_, _-_, _≤_, _<_}
-use native.Mathlib.Nat.{add-zero}
 use lib.ListN.{length, getD, length-map}
 use denote.Ref.{now}
 use Rattle.form.specs.Form.{bodyOf, listsFrom}
@@ -11,7 +10,6 @@ use Rattle.form.proofs.Stored.{stored-rows}
 use Rattle.graph.specs.Merge.{looked}
 use Rattle.le.specs.Le.{words}
 use Rattle.le.specs.Rows.{Holds, entry, span, puts}
-use Rattle.le.specs.declared.Row.{Row}
 use Rattle.le.proofs.Rows.{holds-less, holds-same, holds-index, length-span, length-puts, puts-none, puts-append}
 use Rattle.write.proofs.Grows.{entry-below}
 use Rattle.spider.proofs.Mapping.{looked-next}

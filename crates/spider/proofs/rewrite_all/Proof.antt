@@ -1,9 +1,8 @@
 -- `spider::rewrite_all` meets its contract.
 -- Assumes nothing.
 use mathlib.Core.Bool.{Bool}
-use mathlib.Core.List.{List, _++_}
 use mathlib.Core.Path.{_≡_, ap, _∙_}
-use Prim.Native.Nat.{ℕ, _+_}
+use Prim.Native.Nat.{ℕ}
 use lib.ListN.{length}
 use denote.Ref.{now}
 use Rattle.graph.specs.Graph.{Graph}
@@ -11,7 +10,7 @@ use Rattle.graph.specs.Lists.{keep, joined, range}
 use Rattle.le.proofs.Rows.{holds-less, holds-same}
 use Rattle.links.specs.Links.{cells, isListed, Table, bothRows}
 use Rattle.spider.specs.Rewriting.{Laid}
-use Rattle.spider.proofs.Parts.{allFresh, planned, lists-ready, lists-passed, AllRewritten, all-rewritten}
+use Rattle.spider.proofs.Parts.{allFresh, planned, lists-ready, lists-passed, AllRewritten}
 use borrow.Author.Needs.{needs}
 use native.Mathlib.Omega.{arith}
 use Rattle.spider.proofs.rewrite_all.Statement.{statement}

@@ -1,9 +1,8 @@
 -- `spider::rewrite_edges` meets its contract.
 -- Assumes nothing.
-use mathlib.Core.List.{List}
 use mathlib.Core.Path.{_≡_, refl, _∙_}
-use Prim.Native.Nat.{ℕ, _-_, _≤_, _<_}
-use lib.ListN.{length, getD, take}
+use Prim.Native.Nat.{_-_, _≤_, _<_}
+use lib.ListN.{length, take}
 use Rattle.graph.specs.Form.{edgeStart}
 use Rattle.graph.specs.Graph.{Graph}
 use Rattle.le.specs.Le.{Below}
@@ -12,7 +11,6 @@ use Rattle.spider.specs.Rewriting.{EdgesPassed, Laid}
 use Rattle.spider.proofs.Lists.{EdgeRead}
 use Rattle.spider.proofs.Parts.{walk-start, walk-held, walk-met, walk-ready, walk-more, walk-done}
 use denote.Ref.{now}
-use borrow.Author.Needs.{needs}
 use native.Mathlib.Omega.{arith}
 use Rattle.spider.proofs.rewrite_edges.Statement.{statement}
 use Rattle.spider.proofs.rewrite_edges.Tie as tie

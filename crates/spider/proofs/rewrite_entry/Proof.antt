@@ -1,7 +1,7 @@
 -- `spider::rewrite_entry` meets its contract.
 -- Assumes nothing.
 use mathlib.Core.Bool.{true, false}
-use mathlib.Core.List.{List, [], _∷_}
+use mathlib.Core.List.{[], _∷_}
 use mathlib.Core.Path.{_≡_, sym, ap, _∙_, subst}
 use Prim.Native.Nat.{ℕ, _+_, _<_}
 use native.Mathlib.Nat.{zero-add}
@@ -12,7 +12,6 @@ use Rattle.form.specs.Form.{labelsOf, bodyOf}
 use Rattle.graph.specs.Spider.{after}
 use Rattle.le.specs.Le.{Below}
 use Rattle.le.specs.Rows.{entry, puts}
-use Rattle.le.specs.declared.Row.{Row}
 use Rattle.le.proofs.Numbers.{below-each}
 use Rattle.le.proofs.Rows.{holds-same, span-at}
 use Rattle.links.specs.Links.{cells, isListed}
