@@ -151,6 +151,42 @@ static void check_list(struct desk *d, const struct function *f, struct slice sr
     }
 }
 
+/* The merged graph and the map are those of merge.c. */
+static void check_quotient(const struct function *f, const struct merged *m, const struct outcome *o, uint32_t width) {
+    if (o->len[0] != m->len || memcmp(o->bytes[0], m->form, m->len) != 0) fail(f->name, "it gives the merged graph");
+    for (size_t i = 0; i < o->len[1] / width; i++)
+        if (get(o->bytes[1] + width * i, width) != m->class[i]) fail(f->name, "the map gives the new id of each old node");
+}
+
+/* Spiderizing gives what it gives on the merged graph, with the ids of the list under their new names. */
+static void check_spiderized(struct desk *d, const struct call *c, const struct outcome *o, struct merged *m) {
+    static uint8_t ids[LIST_MOST]; /* a merged graph's ids are no wider */
+    const struct function *f = &functions[c->function];
+    struct slice form = {m->form, m->len}, list = {ids, 0};
+    uint32_t width = ohg_width(c->src.at, c->src.len), new_width = ohg_width(form.at, form.len);
+    for (size_t i = 0; f->lists && i < c->list[0].len; i += width) {
+        uint32_t id = m->class[get(c->list[0].at + i, width)];
+        for (uint32_t k = 0; k < new_width; k++) ids[list.len++] = id >> 8 * k;
+    }
+    struct lent l;
+    uint64_t returned = follow(d, c->function, form, list, &l);
+    if (returned != o->returned || memcmp(answered(d, &l, 0), o->bytes[0], o->len[0]) != 0) fail(f->name, "it merges first, and maps its list");
+}
+
+/* What pairs do to the three calls that carry them out: after a bad list, and before all that the result could be refused by. */
+static void check_merging(struct desk *d, const struct call *c, const struct outcome *o) {
+    static struct merged m;
+    const struct function *f = &functions[c->function];
+    unsigned code = OHG_CODE(o->returned);
+    if (code == OHG_BAD_LIST) return;
+    if (f->lists && !is_node_list(c->src, c->list[0])) fail(f->name, "a bad list is refused before labels are compared");
+    merge(c->src, &m);
+    if (m.differ != (code == OHG_LABELS_DIFFER)) fail(f->name, "11 is for nodes of one class with different labels");
+    if (m.differ) return;
+    if (c->function == QUOTIENT) check_quotient(f, &m, o, ohg_width(c->src.at, c->src.len));
+    else check_spiderized(d, c, o, &m);
+}
+
 /* The call with the buffers that the case names: the same answer, or 10 where one is too short. */
 static void call_again(struct desk *d, const struct call *c, const struct outcome *o) {
     const struct function *f = &functions[c->function];
@@ -180,7 +216,7 @@ static void check_answer(struct desk *d, const struct call *c, const struct outc
     check_numbers(f, g, o->returned);
     if (f->answers == FORM || f->answers == FORM_AND_MAP) {
         uint32_t nodes = check_form(d, f, first);
-        if (f->answers == FORM_AND_MAP) check_map(f, second, ohg_width(c->src.at, c->src.len), nodes);
+        if (c->function == DELETE_NODES) check_map(f, second, ohg_width(c->src.at, c->src.len), nodes);
     }
     bool same = first.len == c->src.len && memcmp(first.at, c->src.at, first.len) == 0;
     if (c->function == REWRITE && !same) fail(f->name, "it gives the bytes that it read");
@@ -204,6 +240,8 @@ void run_case(struct desk *d, const struct call *c, struct outcome *o) {
         if (o->len[i]) memcpy(o->bytes[i], answered(d, &l, i), o->len[i]);
     }
     call_again(d, c, o);
+    bool merges = c->function == QUOTIENT || ((c->function == SPIDERIZE || c->function == SPIDERIZE_NODES) && g.pairs);
+    if (merges && !g.refused) check_merging(d, c, o);
     if (OHG_CODE(o->returned) == OHG_DONE) check_answer(d, c, o, &g);
     current = NULL;
 }

@@ -28,14 +28,15 @@ FUNCTION(spiderize_nodes, SRC, LIST0, OUT, ROOM)
 FUNCTION(cycle_breaking_nodes, SRC, OUT, ROOM)
 FUNCTION(no_loop, SRC, ROOM)
 FUNCTION(once_fed, SRC, ROOM)
+FUNCTION(quotient, SRC, OUT, MAP, ROOM)
 
-enum { DONE = 1 << 0, FORM_1_TO_6 = 0x7E, BAD_LIST = 1 << 7, PAIR = 1 << 8, LIMIT = 1 << 9, SHORT = 1 << 10, OTHER_FORM = 1 << 13 };
+enum { DONE = 1 << 0, FORM_1_TO_6 = 0x7E, BAD_LIST = 1 << 7, PAIR = 1 << 8, LIMIT = 1 << 9, SHORT = 1 << 10, DIFFER = 1 << 11, OTHER_FORM = 1 << 13 };
 #define ALWAYS (DONE | SHORT)
 #define READS (ALWAYS | FORM_1_TO_6 | OTHER_FORM)
 #define MAKES (ALWAYS | BAD_LIST | LIMIT)
 #define ROOM_OF(name) OHG_ROOM_##name
 
-/* name, function, graph, numbers, entries, lists, outs, answers, second, room, codes */
+/* name, function, graph, numbers, entries, lists, outs, answers, second, room, codes; in the order of their numbers in recorded cases */
 const struct function functions[FUNCTIONS] = {
     {"ohg_read", read, true, NO_NUMBER, NO_LIST, 0, 1, SIZES, NOTHING, 0, READS},
     {"ohg_rewrite", rewrite, true, NO_NUMBER, NO_LIST, 0, 1, FORM, NOTHING, 0, READS},
@@ -51,9 +52,10 @@ const struct function functions[FUNCTIONS] = {
     {"ohg_add_edge_target", add_edge_target, true, EDGE_AND_LABEL, NO_LIST, 0, 1, FORM, NODE_ID, 0, READS | MAKES},
     {"ohg_delete_edges", delete_edges, true, NO_NUMBER, EDGES, 1, 1, FORM, NOTHING, ROOM_OF(DELETE_EDGES), READS | BAD_LIST},
     {"ohg_delete_nodes", delete_nodes, true, NO_NUMBER, NODES, 1, 2, FORM_AND_MAP, ENTRIES, ROOM_OF(DELETE_NODES), READS | BAD_LIST},
-    {"ohg_spiderize", spiderize, true, NO_NUMBER, NO_LIST, 0, 1, FORM, NOTHING, ROOM_OF(SPIDERIZE), READS | PAIR | LIMIT},
-    {"ohg_spiderize_nodes", spiderize_nodes, true, NO_NUMBER, NODES, 1, 1, FORM, NOTHING, ROOM_OF(SPIDERIZE_NODES), READS | MAKES | PAIR},
+    {"ohg_spiderize", spiderize, true, NO_NUMBER, NO_LIST, 0, 1, FORM, NOTHING, ROOM_OF(SPIDERIZE), READS | DIFFER | LIMIT},
+    {"ohg_spiderize_nodes", spiderize_nodes, true, NO_NUMBER, NODES, 1, 1, FORM, NOTHING, ROOM_OF(SPIDERIZE_NODES), READS | MAKES | DIFFER},
     {"ohg_cycle_breaking_nodes", cycle_breaking_nodes, true, NO_NUMBER, NO_LIST, 0, 1, LIST, FREE, ROOM_OF(CYCLE_BREAKING_NODES), READS | PAIR},
     {"ohg_no_loop", no_loop, true, NO_NUMBER, NO_LIST, 0, 0, YES, NOTHING, ROOM_OF(NO_LOOP), READS | PAIR},
     {"ohg_once_fed", once_fed, true, NO_NUMBER, NO_LIST, 0, 0, YES, NOTHING, ROOM_OF(ONCE_FED), READS | PAIR},
+    {"ohg_quotient", quotient, true, NO_NUMBER, NO_LIST, 0, 2, FORM_AND_MAP, ENTRIES, ROOM_OF(QUOTIENT), READS | DIFFER},
 };

@@ -16,7 +16,7 @@
 #endif
 #endif
 
-enum { FUNCTIONS = 19, CODES = 14, LISTS = 2, OUTS = 2, LENGTHS = OUTS + 1, FITS = 8, GUARD = 256 };
+enum { FUNCTIONS = 20, CODES = 14, LISTS = 2, OUTS = 2, LENGTHS = OUTS + 1, FITS = 8, GUARD = 256 };
 
 /* The most bytes that are lent: more than any of them has a use for. */
 enum { SRC_MOST = 700000, LIST_MOST = 1 << 19, OUT_MOST = OHG_FORM_BYTES + 1024, ROOM_MOST = OHG_ROOM_CYCLE_BREAKING_NODES + 4096 };
@@ -54,7 +54,7 @@ struct function {
 
 extern const struct function functions[FUNCTIONS];
 
-enum { READ = 0, REWRITE = 1, DISCRETE = 3, DELETE_NODES = 13, SPIDERIZE_NODES = 15, NO_LOOP = 17 };
+enum { READ = 0, REWRITE = 1, DISCRETE = 3, DELETE_NODES = 13, SPIDERIZE = 14, SPIDERIZE_NODES = 15, NO_LOOP = 17, QUOTIENT = 19 };
 
 /* ---- record.c: a call as the bytes of a file ---- */
 
@@ -118,6 +118,23 @@ size_t written(const struct function *f, uint32_t width, uint64_t returned, int 
 bool is_place(const struct function *f, const struct lent *l, unsigned code, uint32_t place);
 /* Calls with lists whose places have 32 bits or more; no memory is used for them, since their entries are not looked at. */
 void run_long_lists(struct desk *d);
+
+/* Whether the nodes that a call's list names are all there, and its end is whole. */
+bool is_node_list(struct slice src, struct slice list);
+
+/* ---- merge.c: merging, written from T-01's text apart from the port ---- */
+
+enum { NODES_MOST = 16384, PAIRS_MOST = 8192 };
+
+struct merged {
+    bool differ; /* two nodes of one class have different labels; there is no form then */
+    uint32_t nodes, class[NODES_MOST]; /* of each node before, the one that it is afterwards */
+    size_t len;
+    uint8_t form[OHG_FORM_BYTES];
+};
+
+/* Merges the graph of a form that is taken. */
+void merge(struct slice src, struct merged *m);
 
 /* ---- cases.c: calls that belong together ---- */
 

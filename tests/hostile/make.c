@@ -107,22 +107,36 @@ static uint8_t *put_ids(struct random *r, uint8_t *at, uint32_t count, uint32_t 
     return at;
 }
 
+/* Pairs by chance, or each of a node and the next, in rising or falling order. */
+static uint8_t *put_pairs(struct random *r, uint8_t *at, uint32_t count, uint32_t nodes, int width) {
+    uint64_t kind = below(r, 3);
+    if (kind == 0) return put_ids(r, at, 2 * count, nodes, width);
+    for (uint32_t i = 0; i < count; i++) {
+        uint32_t v = (kind == 1 ? i : count - i) % nodes, next = (v + 1) % nodes;
+        at = put(put(at, v, width), next, width);
+    }
+    return at;
+}
+
 /* A stored form by chance, which is whole and within the limits; now and then it is of the version that does not fit. */
 static size_t drawn_form(struct random *r, enum size size, uint8_t *to) {
     static const uint32_t limits[] = {2048, 2048, 8192, 1024, 1024, 1024};
     uint32_t count[6], picked = below(r, 6);
     for (uint32_t i = 0; i < 6; i++) count[i] = a_count(r, size == BORDER && i != picked ? SMALL : size, limits[i]);
     uint32_t nodes = count[0], edges = count[1], ports = nodes && edges ? count[2] : 0;
-    for (int i = 3; i < 6; i++)
-        if (nodes == 0 || one_in(r, 2)) count[i] = 0;
-    if (one_in(r, 2)) count[5] = 0;
+    for (uint32_t i = 3; i < 6; i++) { /* fewer have pairs, which some calls refuse */
+        bool stays = size == BORDER && i == picked;
+        if (nodes == 0 || (!stays && below(r, 4) < (i == 5 ? 3 : 2))) count[i] = 0;
+    }
     bool fits = ports <= limits[2];
     for (int i = 0; i < 6; i++) fits = fits && (i == 2 || count[i] <= limits[i]);
     int version = fits != one_in(r, 16) ? 1 : 2, width = 2 * version;
     uint8_t *at = put(put(to, 0x47484F, 3), version, 2);
     for (int i = 0; i < 6; i++)
         if (i != 2) at = put(at, count[i], width);
-    for (uint32_t i = 0; i < nodes + edges; i++) at = put(at, a_label(r), 4);
+    bool alike = count[5] && !one_in(r, 3); /* else joined nodes would seldom have one label */
+    for (uint32_t i = 0, label = a_label(r); i < nodes; i++) at = put(at, alike ? label : a_label(r), 4);
+    for (uint32_t i = 0; i < edges; i++) at = put(at, a_label(r), 4);
     for (uint32_t left = edges; left > 0; left--) {
         uint32_t share = left == 1 ? ports : below(r, 2 * (uint64_t)ports / left + 1);
         uint32_t sources = below(r, share + 1);
@@ -130,7 +144,8 @@ static size_t drawn_form(struct random *r, enum size size, uint8_t *to) {
         at = put_ids(r, at, share, nodes, width);
         ports -= share;
     }
-    return put_ids(r, at, count[3] + count[4] + 2 * count[5], nodes, width) - to;
+    at = put_ids(r, at, count[3] + count[4], nodes, width);
+    return put_pairs(r, at, count[5], nodes, width) - to;
 }
 
 /* Numbers at which a check could be one off. */

@@ -12,6 +12,13 @@ static bool broken_at(struct slice list, uint32_t width, uint64_t count, uint32_
     return entry < whole && get(list.at + (size_t)width * entry, width) >= count;
 }
 
+bool is_node_list(struct slice src, struct slice list) {
+    uint32_t width = ohg_width(src.at, src.len), nodes = get(src.at + 5, width);
+    for (size_t entry = 0; entry <= list.len / width; entry++)
+        if (broken_at(list, width, nodes, entry)) return false;
+    return true;
+}
+
 /* Ids that are given singly have no place; which of two lists is meant the refusal does not say. */
 static bool in_a_list(const struct function *f, const struct lent *l, uint32_t entry) {
     uint32_t width = ohg_width(l->src.at, l->src.len);
