@@ -3,8 +3,8 @@
 use crate::choice::{NODES_1, NODES_2};
 use crate::drawings::{every_eighth, label_bytes, list_for, several, size, FAMILIES};
 use crate::inputs::{
-    Inputs, BARE, EIGHTH_TO_SPIDERIZE, GLOBAL_NODES, NODES, ONE_EDGE, RANDOM, RINGS, TO_ADD_TO,
-    TO_SPIDERIZE, TREES,
+    Inputs, BARE, EIGHTH_OF_JOINED, EIGHTH_TO_SPIDERIZE, FALLING, GLOBAL_NODES, JOINED,
+    JOINED_TO_SPIDERIZE, NODES, ONE_EDGE, RANDOM, RINGS, RISING, TO_ADD_TO, TO_SPIDERIZE, TREES,
 };
 use crate::port::{place, Build};
 use crate::sides::{answered, MOST_LIST_BYTES};
@@ -155,6 +155,23 @@ fn call_at(address: usize, name: &str) -> Result<Call, String> {
                 }
             })
         }
+        "ohg_quotient" => {
+            let f = function!(
+                *const u8,
+                usize,
+                *mut u8,
+                usize,
+                *mut u8,
+                usize,
+                *mut u8,
+                usize
+            );
+            Box::new(move |src, lent_too| {
+                let (s, out) = (lent(src), writable(&mut lent_too.out));
+                let (map, room) = (writable(&mut lent_too.map), writable(&mut lent_too.room));
+                unsafe { f(s.0, s.1, out.0, out.1, map.0, map.1, room.0, room.1) }
+            })
+        }
         "ohg_spiderize" | "ohg_cycle_breaking_nodes" => {
             let f = function!(*const u8, usize, *mut u8, usize, *mut u8, usize);
             Box::new(move |src, lent_too| {
@@ -210,6 +227,15 @@ const CALLS: [(&str, Inputs, Beside); 18] = [
     ("ohg_cycle_breaking_nodes", BARE, Beside::Nothing),
     ("ohg_no_loop", TREES, Beside::Nothing),
     ("ohg_once_fed", RINGS, Beside::Nothing),
+];
+
+/// What is merged. A build without `ohg_quotient` refuses to spiderize these.
+const MERGING: [(&str, Inputs, Beside); 5] = [
+    ("ohg_quotient", JOINED, Beside::Nothing),
+    ("ohg_quotient", RISING, Beside::Nothing),
+    ("ohg_quotient", FALLING, Beside::Nothing),
+    ("ohg_spiderize", JOINED_TO_SPIDERIZE, Beside::Nothing),
+    ("ohg_spiderize_nodes", EIGHTH_OF_JOINED, Beside::EveryEighth),
 ];
 
 /// A call's sizes up to the largest of version 1 are so many, of which three are measured.
@@ -308,7 +334,8 @@ fn print_mean(ratios: &[f64]) {
 /// does. Twice, with none and with some, the difference is the calls'.
 pub fn make_calls(archive: &str, name: &str, times: &str) -> Result<(), String> {
     let times: usize = times.parse().map_err(|_| format!("{times} is no number"))?;
-    let listed = CALLS.iter().find(|(call, ..)| *call == name);
+    let mut calls = CALLS.iter().chain(&MERGING);
+    let listed = calls.find(|(call, ..)| *call == name);
     let Some((_, inputs, Beside::Nothing)) = listed else {
         return Err(format!("no call of {name} without a list is known"));
     };
@@ -343,7 +370,9 @@ fn measure_version(builds: &Builds, version: Version, nodes: &[usize]) -> Result
     println!("\nVersion {}:\n", version.number);
     print_table_head();
     let mut ratios = vec![];
-    for (name, inputs, beside) in CALLS {
+    let merging = builds.have("ohg_quotient").then_some(MERGING);
+    let calls = CALLS.into_iter().chain(merging.into_iter().flatten());
+    for (name, inputs, beside) in calls {
         if !builds.have(name) {
             continue;
         }

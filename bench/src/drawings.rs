@@ -40,24 +40,63 @@ pub const fn sizes(nodes: usize, lists: usize) -> Sizes {
 
 /// Forms of these sizes: random ids, the ports dealt out evenly.
 pub fn forms_of(sizes: Sizes) -> Vec<Vec<u8>> {
-    several(|rng| {
-        let mut ids =
-            |n: usize| -> Vec<u32> { (0..n).map(|_| rng.below(sizes.nodes) as u32).collect() };
-        let ports = sizes.ports / sizes.edges;
-        Drawing {
-            labels: (0..sizes.nodes as u32).collect(),
-            edges: (0..sizes.edges as u32)
-                .map(|label| Edge {
-                    label,
-                    sources: ids(ports / 2),
-                    targets: ids(ports - ports / 2),
-                })
-                .collect(),
-            sources: ids(sizes.sources),
-            targets: ids(sizes.targets),
-            pairs: ids(sizes.pairs).into_iter().zip(ids(sizes.pairs)).collect(),
-        }
-    })
+    several(|rng| by_chance(rng, sizes))
+}
+
+fn by_chance(rng: &mut Rng, sizes: Sizes) -> Drawing {
+    let mut ids =
+        |n: usize| -> Vec<u32> { (0..n).map(|_| rng.below(sizes.nodes) as u32).collect() };
+    let ports = sizes.ports / sizes.edges;
+    Drawing {
+        labels: (0..sizes.nodes as u32).collect(),
+        edges: (0..sizes.edges as u32)
+            .map(|label| Edge {
+                label,
+                sources: ids(ports / 2),
+                targets: ids(ports - ports / 2),
+            })
+            .collect(),
+        sources: ids(sizes.sources),
+        targets: ids(sizes.targets),
+        pairs: ids(sizes.pairs).into_iter().zip(ids(sizes.pairs)).collect(),
+    }
+}
+
+/// What merging is measured on, by the pairs: random drawings whose nodes have one label, so that any can be joined, with
+/// half as many pairs and lists half as long.
+pub const JOINED: [(&str, Family); 4] = [
+    ("random pairs", random_pairs),
+    ("rising chain", rising_chain),
+    ("falling chain", falling_chain),
+    ("no pairs", |rng, nodes| with_pairs(rng, nodes, vec![])),
+];
+
+pub fn random_pairs(rng: &mut Rng, nodes: usize) -> Drawing {
+    Drawing {
+        labels: vec![0; nodes],
+        ..by_chance(rng, sizes(nodes, nodes / 2))
+    }
+}
+
+fn with_pairs(rng: &mut Rng, nodes: usize, pairs: Vec<(u32, u32)>) -> Drawing {
+    Drawing {
+        pairs,
+        ..random_pairs(rng, nodes)
+    }
+}
+
+/// Each of half the nodes is joined to the next, from the first on.
+pub fn rising_chain(rng: &mut Rng, nodes: usize) -> Drawing {
+    with_pairs(rng, nodes, chain(nodes).collect())
+}
+
+/// The same from the last on.
+pub fn falling_chain(rng: &mut Rng, nodes: usize) -> Drawing {
+    with_pairs(rng, nodes, chain(nodes).rev().collect())
+}
+
+fn chain(nodes: usize) -> impl DoubleEndedIterator<Item = (u32, u32)> {
+    (0..nodes as u32 / 2).map(|node| (node, node + 1))
 }
 
 /// The forms of as many drawings as are together about as large as the largest of their version. Of a small one alone,

@@ -1,6 +1,8 @@
 //! What the growth of a call is measured on.
 
-use crate::drawings::{forms_of, label_bytes, several, size, sizes};
+use crate::drawings::{
+    falling_chain, forms_of, label_bytes, random_pairs, rising_chain, several, size, sizes,
+};
 use differential::form::{Sizes, Version, VERSION_1};
 use differential::rows::choice::families::{ring, tree};
 
@@ -52,7 +54,7 @@ pub const TO_ADD_TO: Inputs = Inputs {
     ..RANDOM
 };
 
-/// Without pairs, which the choice and spiderizing refuse, and without global lists, of which spiderizing makes nodes.
+/// Without pairs, which the choice refuses, and without global lists, of which spiderizing makes nodes.
 pub const BARE: Inputs = Inputs {
     words: "random, no lists",
     of: |nodes| sized(forms_of(sizes(nodes, 0))),
@@ -69,6 +71,37 @@ pub const TO_SPIDERIZE: Inputs = Inputs {
 pub const EIGHTH_TO_SPIDERIZE: Inputs = Inputs {
     most: |most| most.nodes * 5 / 8,
     ..BARE
+};
+
+/// Half as many pairs, and all nodes have one label.
+pub const JOINED: Inputs = Inputs {
+    words: "random pairs",
+    of: |nodes| sized(several(|rng| random_pairs(rng, nodes))),
+    ..RANDOM
+};
+
+pub const RISING: Inputs = Inputs {
+    words: "rising chain",
+    of: |nodes| sized(several(|rng| rising_chain(rng, nodes))),
+    ..RANDOM
+};
+
+pub const FALLING: Inputs = Inputs {
+    words: "falling chain",
+    of: |nodes| sized(several(|rng| falling_chain(rng, nodes))),
+    ..RANDOM
+};
+
+/// Each port and each global entry gets a node of its own, five to a node, beside the merged ones.
+pub const JOINED_TO_SPIDERIZE: Inputs = Inputs {
+    most: |most| most.nodes / 6,
+    ..JOINED
+};
+
+/// Those of the classes that every eighth node is in do so: by chance about two to a node.
+pub const EIGHTH_OF_JOINED: Inputs = Inputs {
+    most: |most| most.nodes / 3,
+    ..JOINED
 };
 
 /// All of a drawing is taken away before the no-loop check says yes.

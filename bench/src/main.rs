@@ -14,6 +14,7 @@ mod deleting;
 mod drawings;
 mod growth;
 mod inputs;
+mod merging;
 mod once_fed;
 mod plot;
 mod port;
@@ -58,6 +59,7 @@ fn measure() -> Result<(), String> {
     let mut tables = reading::measure();
     tables.extend(building::measure());
     tables.extend(deleting::measure(&rooms)?);
+    tables.extend(merging::measure(&rooms)?);
     tables.extend(choice::measure(&rooms)?);
     tables.extend(once_fed::measure(&rooms)?);
     tables.extend(spidering::measure(&rooms)?);

@@ -1,7 +1,7 @@
 //! Spiderizing.
 
 use crate::choice::chosen;
-use crate::drawings::{several, FAMILIES, MANY};
+use crate::drawings::{several, FAMILIES, JOINED, MANY};
 use crate::sides::graph_times;
 use crate::stored::decode;
 use crate::table::{mean, Table, ORIGINAL};
@@ -97,31 +97,44 @@ impl AsRef<[u8]> for Listed {
 }
 
 pub fn measure(rooms: &Rooms) -> Result<Vec<Table>, String> {
-    let words = &["family", "nodes", "listed (mean)", "bytes answered (mean)"];
     let mut room = vec![0; rooms.of("ohg_spiderize_nodes")?];
-    let mut some = Table::begin("`ohg_spiderize_nodes`, the chosen ones", words, &ORIGINAL);
-    measure_families(&mut some, chosen, |inputs| {
-        spiderize_nodes(inputs, &mut room)
-    });
+    let mut some = |title, families, listed| {
+        measure_families(title, families, listed, |inputs| {
+            spiderize_nodes(inputs, &mut room)
+        })
+    };
+    let chosen = some("`ohg_spiderize_nodes`, the chosen ones", &FAMILIES, chosen);
+    let title = "`ohg_spiderize_nodes`, every eighth, after merging";
+    let joined = some(title, &JOINED, eighth);
 
     let mut room = vec![0; rooms.of("ohg_spiderize")?];
-    let mut whole = Table::begin("`ohg_spiderize`, all nodes", words, &ORIGINAL);
-    measure_families(&mut whole, all, |inputs| spiderize(inputs, &mut room));
-    Ok(vec![some, whole])
+    let mut whole = |title, families| {
+        measure_families(title, families, all, |inputs| spiderize(inputs, &mut room))
+    };
+    let all = whole("`ohg_spiderize`, all nodes", &FAMILIES);
+    let all_joined = whole("`ohg_spiderize`, all nodes, after merging", &JOINED);
+    Ok(vec![chosen, joined, all, all_joined])
 }
 
 fn all(graph: &Graph) -> Vec<NodeId> {
     (0..graph.hypergraph.nodes.len()).map(NodeId).collect()
 }
 
+fn eighth(graph: &Graph) -> Vec<NodeId> {
+    all(graph).into_iter().step_by(8).collect()
+}
+
 /// Each family with few nodes and with as many as can be spiderized in version 1, then with many, where so many can be,
 /// and with as many as can be in version 2; and the means over them. A row's version is that of the answers.
 fn measure_families(
-    table: &mut Table,
+    title: &'static str,
+    families: &[(&str, Family)],
     listed: fn(&Graph) -> Vec<NodeId>,
     mut times: impl FnMut(&[Listed]) -> Vec<f64>,
-) {
-    for (name, family) in FAMILIES {
+) -> Table {
+    let words = &["family", "nodes", "listed (mean)", "bytes answered (mean)"];
+    let mut table = Table::begin(title, words, &ORIGINAL);
+    for &(name, family) in families {
         let [most_1, most_2] =
             [VERSION_1, VERSION_2].map(|version| most_nodes(version, family, listed));
         let many = (MANY < most_2).then_some(MANY);
@@ -137,6 +150,7 @@ fn measure_families(
         }
     }
     table.version_means();
+    table
 }
 
 fn inputs(family: Family, nodes: usize, listed: fn(&Graph) -> Vec<NodeId>) -> Vec<Listed> {
@@ -180,6 +194,8 @@ pub fn spiderize_nodes(inputs: &[Listed], room: &mut [u8]) -> Vec<f64> {
 /// answer would have to be.
 fn replace_by_spiderized(graph: &mut Graph, nodes: &[NodeId]) {
     let taken = std::mem::replace(graph, Graph::empty());
-    let spiderized = taken.spiderize_nodes(nodes).expect("nothing is merged");
+    let spiderized = taken
+        .spiderize_nodes(nodes)
+        .expect("joined nodes have one label");
     *graph = flattened(spiderized);
 }
