@@ -11,10 +11,11 @@ use std::process::{self, Command};
 use std::sync::atomic::{AtomicUsize, Ordering};
 use std::sync::OnceLock;
 
-/// How many places, and how many bytes lie between two. Functions begin at multiples of 16, and a slow place was seen to
-/// come again after each 256 bytes: up to that no two of these are the same.
+/// How many places, and how many bytes lie between two. Functions begin at multiples of 4 or, on x86-64, of 16, and a slow
+/// place was seen to come again after each 256 bytes: up to that no two of these are the same, and of the multiples of 4 in
+/// a row of 16 each has as many. Else the same instructions seem to take 4 % more in one build than in another.
 pub const PLACES: usize = 8;
-const APART: usize = 48;
+const APART: usize = 60;
 
 extern "C" {
     fn dlopen(file: *const c_char, flags: c_int) -> *mut c_void;
