@@ -1,6 +1,7 @@
-// Spiderizing: the implicit wiring of listed nodes made explicit. Every entry of a listed node gets a fresh node, and two spiders for each listed node
-// join what the fresh nodes took apart. One pass counts the entries, one rewrites the lists while it numbers the entries, writes the label of each fresh node and
-// links it to the one before it of the same node and kind; the spiders are read off these chains.
+// Spiderizing: joined nodes are merged, and then the implicit wiring of listed nodes is made explicit. Every entry of a listed node gets a fresh node, and two
+// spiders for each listed node join what the fresh nodes took apart. One pass counts the entries; the merged graph is copied to where it stands in the result; and
+// one pass rewrites the lists there while it numbers the entries, writes the label of each fresh node and links it to the one before it of the same node and kind;
+// the spiders are read off these chains.
 ghost use mathlib.Core.Path.{_≡_};
 ghost use mathlib.Core.List.{List, [], _∷_, _++_};
 ghost use mathlib.Core.Bool.{true, false};
