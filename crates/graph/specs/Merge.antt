@@ -38,7 +38,7 @@ abbrev pub leaders : ℕ → List (ℕ × ℕ) → List ℕ
 leaders n [] = range 0 n
 leaders n (p ∷ ps) = united p (leaders n ps)
 
--- that of a graph
+-- that of a graph. hypergraph.rs, `coequalizer`
 abbrev pub classes : Graph → List ℕ
 classes g = leaders (length (g .labels)) (g .pairs)
 
@@ -82,7 +82,7 @@ merged g = let new = numbered (classes g) in record { graph = contracted (classe
 abbrev pub agreeing : Graph → Bool
 agreeing g = same (looked (g .labels) (classes g)) (g .labels)
 
--- 11: two nodes of one class have different labels
+-- 11: two nodes of one class have different labels. open_hypergraph.rs, `quotient`
 unfoldable pub quotient : Graph → Answer Merged
 quotient g = do
   agreeing g else refusal 11
