@@ -104,7 +104,7 @@ static MEASURED: OnceLock<Build> = OnceLock::new();
 pub fn open_measured() -> Result<(), String> {
     let (folder, command) = match env::consts::ARCH {
         "x86_64" => ("target/staticlib", "rt staticlib ohg"),
-        _ => ("target/native", "bench/native-archive"),
+        _ => ("target/native", "tools/native-archive"),
     };
     let folder = env::var_os("OHG_LIB_DIR").unwrap_or(folder.into());
     let root = PathBuf::from(env!("CARGO_MANIFEST_DIR")).join("..");

@@ -1,5 +1,5 @@
 //! Links `libohg.a`: the one in the folder that `OHG_LIB_DIR` names, counted from the repository's root; else the
-//! delivered one on x86-64, and elsewhere the same module compiled for this machine, which `bench/native-archive` makes.
+//! delivered one on x86-64, and elsewhere the same module compiled for this machine, which `tools/native-archive` makes.
 
 use std::env;
 use std::path::Path;
@@ -9,7 +9,7 @@ fn main() {
     let package = env::var_os("CARGO_MANIFEST_DIR").expect("cargo sets CARGO_MANIFEST_DIR");
     let (folder, command) = match env::var("CARGO_CFG_TARGET_ARCH").as_deref() {
         Ok("x86_64") => ("target/staticlib", "rt staticlib ohg"),
-        _ => ("target/native", "bench/native-archive"),
+        _ => ("target/native", "tools/native-archive"),
     };
     let folder = env::var_os("OHG_LIB_DIR").unwrap_or(folder.into());
     let folder = Path::new(&package).join("../..").join(folder);

@@ -228,6 +228,6 @@ pub extern "C" fn ohg_no_loop(src: &[u8], room: &mut [u8]) -> u64
 pub extern "C" fn ohg_once_fed(src: &[u8], room: &mut [u8]) -> u64
     ensures { λ r. ⌜ r ≡ packed (onceFedCall (now (src .entry)) (length (now (room .entry)))) ⌝ }
 {
-    let x = checks::once_fed(src, room);
+    let x = once_fed::once_fed(src, room);
     pack(x)
 }

@@ -124,7 +124,7 @@ fn read_counts(s: &[u8], f: Format) -> Reading
 }
 
 // The count or id at a place.
-fn count_at(s: &[u8], at: usize, width: usize) -> usize
+fn number_at(s: &[u8], at: usize, width: usize) -> usize
     requires { ⌜ Holds (now s) (rowAt at width) 1 ⌝ }
     ensures { λ r. ⌜ (r ≡ numberAt width (now (s .entry)) at) × (r < 2 ^ 32) ⌝ }
 {
@@ -162,7 +162,7 @@ fn highest_of(s: &[u8], at: usize, n: usize, width: usize) -> u32
     let mut most: u32 = 0;
     let mut place = at;
     while place < end {
-        let id = count_at(s, place, width);
+        let id = number_at(s, place, width);
         most = higher(most, id as u32);
         place += width;
     }
@@ -187,7 +187,7 @@ fn first_bad(s: &[u8], at: usize, n: usize, width: usize, bound: usize) -> usize
     ensures { λ r. ⌜ r ≡ firstBad bound (numbers width n (drop at (now (s .entry)))) ⌝ }
 {
     for k in 0..n {
-        if bound <= count_at(s, at + k * width, width) {
+        if bound <= number_at(s, at + k * width, width) {
             return k;
         }
     }
@@ -263,7 +263,7 @@ fn count_over(s: &[u8], at: usize, ports: usize, width: usize, limit: usize) -> 
     requires { ⌜ Holds (now s) (rowAt at width) 2 × (limit < 2 ^ 32) ⌝ }
     ensures { λ r. ⌜ r ≡ countOver width limit (now (s .entry)) at ports ⌝ }
 {
-    if limit + count_at(s, at + width, width) < ports {
+    if limit + number_at(s, at + width, width) < ports {
         return at;
     }
     at + width

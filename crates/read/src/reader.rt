@@ -11,7 +11,7 @@ ghost use Rattle.graph.specs.Read.{countsAt};
 ghost use Rattle.form.specs.Form.{sized};
 ghost use Rattle.read.specs.Steps.{past};
 ghost use Rattle.read.specs.Reach.{reach};
-use crate::count_at;
+use crate::number_at;
 use crate::reach_of;
 use form::Sizes;
 
@@ -34,7 +34,7 @@ impl<'a> Reader<'a> {
         ensures { λ r. ⌜ (r ≡ numberAt width (now (now (self .entry) .src)) (now (self .entry) .at)) × (r < 2 ^ 32)
             × (now (self .exit) ≡ past width (now (self .entry))) ⌝ }
     {
-        let n = count_at(self.src, self.at, width);
+        let n = number_at(self.src, self.at, width);
         self.at += width;
         n
     }

@@ -1,4 +1,4 @@
-// The exported functions by their numbers in the recorded list: the rows of the table in tests/differential/src/operations.rs. Those that take the same
+// The exported functions by their numbers in the recorded list: the rows of tests/differential/src/rows. Those that take the same
 // stand in one function here, which answers whether the call returns what is due. A number that stands in none of them differs.
 use crate::list::NO_ROOM;
 use crate::list::Record;

@@ -27,26 +27,26 @@ inside c =
     let l : c .before .loop .k + 1 ≤ a .n = omega arith in
     omega (arith, mul-le-mul-right (a .width) l)
 
-mul-count-at : tie.Need-mul-count-at Inv-loop μ-loop
-mul-count-at c = let l = inside c in omega arith
+mul-number-at : tie.Need-mul-number-at Inv-loop μ-loop
+mul-number-at c = let l = inside c in omega arith
 
-add-count-at : tie.Need-add-count-at Inv-loop μ-loop
-add-count-at c = let l = inside c in omega arith
+add-number-at : tie.Need-add-number-at Inv-loop μ-loop
+add-number-at c = let l = inside c in omega arith
 
-count-at-requires : tie.Need-count-at-requires Inv-loop μ-loop
-count-at-requires c κs = let l = inside c in record { wide = c .before .before .before .pre .wide; inside = omega arith }
+number-at-requires : tie.Need-number-at-requires Inv-loop μ-loop
+number-at-requires c κs = let l = inside c in record { wide = c .before .before .before .pre .wide; inside = omega arith }
 
 returns : tie.Need-returns Inv-loop μ-loop
 returns c =
     let a = c .before .before .before .before .before .args in
     let l = c .before .before .before .loop in
-    here-bad (now (a .s)) (a .at) (a .width) (a .bound) (a .n) (l .k) (omega arith) (l .inv .1) (omega (arith, c .before .count-at .ensures .0))
+    here-bad (now (a .s)) (a .at) (a .width) (a .bound) (a .n) (l .k) (omega arith) (l .inv .1) (omega (arith, c .before .number-at .ensures .0))
 
 loop-again : tie.Need-loop-again Inv-loop μ-loop
 loop-again c =
     let a = c .before .before .before .before .before .args in
     let l = c .before .before .before .loop in
-    (omega arith, one-on (now (a .s)) (a .at) (a .width) (a .bound) (a .n) (l .k) (omega arith) (l .inv .1) (omega (arith, c .before .count-at .ensures .0)))
+    (omega arith, one-on (now (a .s)) (a .at) (a .width) (a .bound) (a .n) (l .k) (omega arith) (l .inv .1) (omega (arith, c .before .number-at .ensures .0)))
 
 returns-2 : tie.Need-returns-2 Inv-loop μ-loop
 returns-2 c =
@@ -62,9 +62,9 @@ first-bad-spec =
     Inv-loop
     μ-loop
     loop-holds
-    mul-count-at
-    add-count-at
-    count-at-requires
+    mul-number-at
+    add-number-at
+    number-at-requires
     returns
     (λ c. search needs)
     (λ c. search needs)

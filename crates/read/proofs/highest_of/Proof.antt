@@ -62,8 +62,8 @@ inside c =
     let h = before-end (a .at) (a .n) (a .width) (l .inv .k) (l .place) (l .inv .here) (c .loop-test .taken) in
     (h, omega (arith, l .inv .here, mul-le-mul-right (c .before .before .before .args .width) h))
 
-count-at-requires : tie.Need-count-at-requires Inv-loop μ-loop
-count-at-requires c κs =
+number-at-requires : tie.Need-number-at-requires Inv-loop μ-loop
+number-at-requires c κs =
     let h = inside c in
     record { wide = c .before .before .before .pre .wide; inside = omega arith }
 
@@ -95,8 +95,8 @@ loop-again c =
       few = omega arith;
       here = omega (arith, i .here);
       found =
-          c .higher .ensures ∙ highest-next (l .most) (c .before .count-at .result) done (i .found)
-          ∙ ap (λ (x : ℕ). highest (done ++ (x ∷ []))) (c .before .count-at .ensures .0 ∙ ap (numberAt (a .width) s) place)
+          c .higher .ensures ∙ highest-next (l .most) (c .before .number-at .result) done (i .found)
+          ∙ ap (λ (x : ℕ). highest (done ++ (x ∷ []))) (c .before .number-at .ensures .0 ∙ ap (numberAt (a .width) s) place)
           ∙ ap highest (sym (span-next s r 0 (i .k)));
     }
 
@@ -117,7 +117,7 @@ highest-of-spec =
     (λ c. search needs)
     (λ c. search needs)
     loop-holds
-    count-at-requires
+    number-at-requires
     (λ c. search needs)
     higher-requires
     add-place

@@ -1,6 +1,6 @@
 -- `read::reader::Reader::count` meets its contract: a walk of its MIR, by hand. The borrow is opened, which gives the reader's cell and what the reader owns;
--- `count_at` is called on the slice and the numbers; the number is moved on; and the borrow is closed at the reader past the count. What src owns goes to the
--- callee, beside the token of its lifetime, which comes back. All that the proof knows of `count_at` is that it meets its contract.
+-- `number_at` is called on the slice and the numbers; the number is moved on; and the borrow is closed at the reader past the count. What src owns goes to the
+-- callee, beside the token of its lifetime, which comes back. All that the proof knows of `number_at` is that it meets its contract.
 -- Assumes nothing.
 use mathlib.Core.Path.{_≡_, refl}
 use Prim.Native.Nat.{ℕ, _<_, _≤_, _^_, _+_, _*_}
@@ -48,10 +48,10 @@ use Rattle.le.specs.Rows.{rowAt, Holds}
 use Rattle.read.specs.Steps.{past}
 use Rattle.read.specs.declared.reader.Reader.{Reader}
 use Rattle.read.proofs.Held.{D, L, R, Slice, machine, Own, typed, roomy, src-out, moved}
-use Rattle.read.proofs.count_at as count-at
-use Rattle.read.proofs.count_at.Symbol as count-at-def
-use Rattle.read.proofs.count_at.Symbol.{name as #read·count-at}
-use Rattle.read.proofs.count_at.Met as count-at-thm
+use Rattle.read.proofs.number_at as number-at
+use Rattle.read.proofs.number_at.Symbol as number-at-def
+use Rattle.read.proofs.number_at.Symbol.{name as #read·number-at}
+use Rattle.read.proofs.number_at.Met as number-at-thm
 use Rattle.read.proofs.reader.Reader as T
 use Rattle.read.proofs.reader.Reader.Laws as T′
 use Rattle.read.proofs.reader.Reader.count.Key.{name as #read·count}
@@ -68,7 +68,7 @@ stayed = (stay-ref (0 ∷ []) tt behind, (stay-none (λ _. usize) yes, tt))
 
 -- the contract that the proof cites
 abbrev CountAt : {M : Type 1} (𝓤 : URA M) (H : Heap 𝓤) (A : Atoms 𝓤) (mem : Memory → SProp 𝓤) (run : Routine → Fun 𝓤) → Contract 𝓤
-CountAt 𝓤 H A mem run = tripleOf 𝓤 H A count-at.signature (count-at.spec 𝓤 H A mem run)
+CountAt 𝓤 H A mem run = tripleOf 𝓤 H A number-at.signature (number-at.spec 𝓤 H A mem run)
 
 -- the place after a count that is wholly there
 end-fits : (m v l : ℕ) → l < 2 ^ 64 → m + 1 * v ≤ l → m + v < 2 ^ 64
@@ -99,7 +99,7 @@ module _ {M : Type 1} (𝓤 : URA M) (H : Heap 𝓤) (A : Atoms 𝓤) (W : Given
   abbrev Tok : Item 𝓤
   Tok = ‵ (flft κ′ q′) ⊛ ‵ ftrue
 
-  -- what `count_at` is passed, what it asks, and what it says
+  -- what `number_at` is passed, what it asks, and what it says
   abbrev Callee : Contract 𝓤
   Callee = CountAt 𝓤 H A at-mem run
 
@@ -115,11 +115,11 @@ module _ {M : Type 1} (𝓤 : URA M) (H : Heap 𝓤) (A : Atoms 𝓤) (W : Given
       move ! (1 ∷ 0 ∷ []) $ fjoin ! $ done !
 
   abbrev Ensured : ℕ → SProp 𝓤
-  Ensured r = ensured 𝓤 H A count-at.ended (count-at.clauses 𝓤 H A at-mem run) (κ′, tt) (h .src, (h .at, (v, tt))) tt r
+  Ensured r = ensured 𝓤 H A number-at.ended (number-at.clauses 𝓤 H A at-mem run) (κ′, tt) (h .src, (h .at, (v, tt))) tt r
 
   -- it has no `&mut`, so what is said of last values is dropped
   said : (r : ℕ) → ent 𝓤 (Ensured r) (fact 𝓤 (Found r))
-  said r = exE 𝓤 _ (λ ws. snd∗ 𝓤 (sem 𝓤 H A (lasts count-at.ended (κ′, tt) (h .src, (h .at, (v, tt))) ws)) (fact 𝓤 (Found r)))
+  said r = exE 𝓤 _ (λ ws. snd∗ 𝓤 (sem 𝓤 H A (lasts number-at.ended (κ′, tt) (h .src, (h .at, (v, tt))) ws)) (fact 𝓤 (Found r)))
 
   exits : (r : ℕ) (w : Val) → Found r
       → ent 𝓤 (⋆ 𝓤 H A (‵ (fobs γ (R κ′ .coded .code h′)) ∷ ‵ (fbor κ (Body (mem (R κ′)) b o γ)) ∷ ‵ (flft κ q) ∷ ‵ (usize .own r (w ∷ [])) ∷ Tok ∷ []))
@@ -131,7 +131,7 @@ module _ {M : Type 1} (𝓤 : URA M) (H : Heap 𝓤) (A : Atoms 𝓤) (W : Given
       move ! (2 ∷ 4 ∷ []) $ join ! $ frame ! $ feqI ! (List Val) (vptr b o ∷ []) (vptr b o ∷ []) refl $ fjoin3 ! $ nothing ! $
       owned ! usize (Is usize) (uint-makes 𝓤 H A W w64) v _ (refl, v-fits) $ fjoin ! $ move ! (1 ∷ 0 ∷ []) $ fjoin ! $ done !
 
-  module _ (C : Calls 𝓤 H) (Λ : Loops 𝓤 H) (fm : FmC 𝓤 H (W .laws) C) (known : Triple 𝓤 (C #read·count-at) Callee) where
+  module _ (C : Calls 𝓤 H) (Λ : Loops 𝓤 H) (fm : FmC 𝓤 H (W .laws) C) (known : Triple 𝓤 (C #read·number-at) Callee) where
     walk : ent 𝓤 (onEntry 𝓤 H A count.signature (κ, (κ′, tt)) (q, (q′, tt)) x at) (WpFn 𝓤 H C Λ code.function (vptr b o ∷ vint w64 v ∷ []) Post)
     walk =
         qed W ((‵ (flft κ q) ⊛ Tok) ∷ ‵ (owns (MutRef (named 0) κ (R κ′) ∷ usize ∷ []) x at) ∷ []) ∵ enter ! C Λ code.function (vptr b o ∷ vint w64 v ∷ []) _ $
@@ -150,7 +150,7 @@ module _ {M : Type 1} (𝓤 : URA M) (H : Heap 𝓤) (A : Atoms 𝓤) (W : Given
         (init ! 11 refl (tt, wt .1 .0)) $
         assigns ! (of-opd ! (load ! (from ! (hop ! (look ! 17 refl) (fld ! refl (stop !)))) (look-in ! 0 (sub ! 1 refl (whole !))))) (from ! (stop !))
         (init ! 9 refl (tt, wt .1 .1 .0)) $
-        -- `count_at`
+        -- `number_at`
         move ! (1 ∷ []) $ use1 W (‵ (Slice κ′ (h .src)) ⊛ ‵ (Own 𝓤 H A W κ′ h)) (src-out 𝓤 H A W κ′ h) $ split ! $ move ! (6 ∷ 0 ∷ []) $
         use2 W (raw (Callee .pre to)) (asks (room .1)) $
         -- [what it asks; what the reader owns; the cell; the open borrow; obs; auth; v's; _6; …; _5; …; _4; …; _3; …; _2; …; _1; …; room for _0; …]
@@ -180,7 +180,7 @@ module _ {M : Type 1} (𝓤 : URA M) (H : Heap 𝓤) (A : Atoms 𝓤) (W : Given
         move ! (8 ∷ 9 ∷ []) $ free1 ! $ move ! (6 ∷ 7 ∷ []) $ free1 ! $ free0 ! $ keep ! (0 ∷ 1 ∷ 2 ∷ 3 ∷ 4 ∷ []) $ by ! (exits r w e))))))))))))))
 
 module _ {M : Type 1} (𝓤 : URA M) (H : Heap 𝓤) (A : Atoms 𝓤) (W : Given 𝓤 H A) (mem : Memory → SProp 𝓤) (run : Routine → Fun 𝓤) where
-  count-walks : (C : Calls 𝓤 H) (Λ : Loops 𝓤 H) → FmC 𝓤 H (W .laws) C → Triple 𝓤 (C #read·count-at) (CountAt 𝓤 H A mem run)
+  count-walks : (C : Calls 𝓤 H) (Λ : Loops 𝓤 H) → FmC 𝓤 H (W .laws) C → Triple 𝓤 (C #read·number-at) (CountAt 𝓤 H A mem run)
       → Walks 𝓤 H A count.ended stayed (WpFn 𝓤 H C Λ code.function) (count.clauses 𝓤 H A mem run)
   count-walks C Λ fm known =
       walked 𝓤 H A count.ended stayed (count.clauses 𝓤 H A mem run) (WpFn 𝓤 H C Λ code.function) (λ κs. (ptr-vals, (uint-vals w64, tt)))
@@ -190,7 +190,7 @@ module _ {M : Type 1} (𝓤 : URA M) (H : Heap 𝓤) (A : Atoms 𝓤) (W : Given
       (are .1 .0 .1) within C Λ fm known))
 
 count-meets : {M : Type 1} (𝓤 : URA M) (H : Heap 𝓤) (A : Atoms 𝓤) → Given 𝓤 H A → (mem : Memory → SProp 𝓤) (run : Routine → Fun 𝓤) (𝓣 : Tables 𝓤 H)
-    → Triple 𝓤 (𝓣 .C #read·count-at) (CountAt 𝓤 H A mem run)
+    → Triple 𝓤 (𝓣 .C #read·number-at) (CountAt 𝓤 H A mem run)
     → Meets 𝓤 H A count.signature (WpFn 𝓤 H (𝓣 .C) (𝓣 .Λ) code.function) (count.spec 𝓤 H A mem run)
 count-meets 𝓤 H A W mem run 𝓣 known =
     walk-meets 𝓤 H A count.ended stayed W (goes-ref 𝓤 H A W 2 0 tt behind, (goes-none 𝓤 H A W 2 (λ _. usize) yes (λ κs x f. refl), tt))
@@ -203,4 +203,4 @@ count-spec 𝓤 H 𝓜 𝓖 𝓡 =
     entered 𝓤 H (tripleOf 𝓤 H (𝓖 .A) count.signature (count.spec 𝓤 H (𝓖 .A) (𝓜 .mem) (𝓡 .run)))
     (tables 𝓤 H 𝓜 𝓡 code.env .C) (tables 𝓤 H 𝓜 𝓡 code.env .Λ) #read·count code.function (code.unfolded 𝓤 H 𝓜 𝓡)
     (count-meets 𝓤 H (𝓖 .A) (givenOf 𝓤 H 𝓜 𝓖) (𝓜 .mem) (𝓡 .run) (tablesOf 𝓤 H 𝓜 (tables 𝓤 H 𝓜 𝓡 code.env))
-    (cited 𝓤 H (CountAt 𝓤 H (𝓖 .A) (𝓜 .mem) (𝓡 .run)) 𝓜 𝓡 code.env #read·count-at count-at-def.routine code.calls-read·count-at (count-at-thm.met 𝓤 H 𝓜 𝓖 𝓡)))
+    (cited 𝓤 H (CountAt 𝓤 H (𝓖 .A) (𝓜 .mem) (𝓡 .run)) 𝓜 𝓡 code.env #read·number-at number-at-def.routine code.calls-read·number-at (number-at-thm.met 𝓤 H 𝓜 𝓖 𝓡)))

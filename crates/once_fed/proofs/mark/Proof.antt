@@ -1,4 +1,4 @@
--- `checks::mark` meets its contract.
+-- `once_fed::mark` meets its contract.
 -- Assumes nothing.
 use mathlib.Core.Logic.{⊎-elim}
 use mathlib.Core.Path.{_≡_, refl, subst}
@@ -7,8 +7,8 @@ use native.Mathlib.Omega.{arith}
 use lib.ListN.{getD}
 use borrow.Author.Needs.{needs}
 use borrow.Author.Tests.{eq-eqb, ne-eqb}
-use Rattle.checks.proofs.mark.Statement.{statement}
-use Rattle.checks.proofs.mark.Tie as tie
+use Rattle.once_fed.proofs.mark.Statement.{statement}
+use Rattle.once_fed.proofs.mark.Tie as tie
 
 returns-2 : tie.Need-returns-2
 returns-2 c = (rw (ne-eqb _ _ (c .if1 .left)), refl)

@@ -1,4 +1,4 @@
--- `checks::mark_lists` meets its contract.
+-- `once_fed::mark_lists` meets its contract.
 -- Assumes nothing.
 use mathlib.Core.Logic.{inl, inr}
 use mathlib.Core.Path.{refl}
@@ -6,14 +6,14 @@ use native.Mathlib.Omega.{arith}
 use denote.Ref.{now}
 use borrow.Author.Needs.{needs}
 use borrow.Author.Tests.{not-true, not-false}
-use Rattle.checks.specs.Marked.{Marks}
+use Rattle.once_fed.specs.Marked.{Marks}
 use Rattle.form.specs.Stored.{graphOf}
 use Rattle.form.proofs.Stored.{stored-rows, stored-known}
 use Rattle.le.proofs.Rows.{holds-less}
-use Rattle.checks.proofs.Marked.{first-stop, second-next}
-use Rattle.checks.proofs.Whole.{sources-there, targets-there}
-use Rattle.checks.proofs.mark_lists.Statement.{statement}
-use Rattle.checks.proofs.mark_lists.Tie as tie
+use Rattle.once_fed.proofs.Marked.{first-stop, second-next}
+use Rattle.once_fed.proofs.Whole.{sources-there, targets-there}
+use Rattle.once_fed.proofs.mark_lists.Statement.{statement}
+use Rattle.once_fed.proofs.mark_lists.Tie as tie
 
 sources-marked : (c : tie.After-mark-list) → let a = c .before .before .before .before .before .before .before .args in
     Marks (now (a .room)) (c .mark-list .last .1 .1 .1 .1 .1 .0) (a .z .nodes) (c .mark-list .result) 2 (graphOf (now (a .src)) .sources)

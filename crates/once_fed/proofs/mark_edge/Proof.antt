@@ -1,4 +1,4 @@
--- `checks::mark_edge` meets its contract.
+-- `once_fed::mark_edge` meets its contract.
 -- Assumes nothing.
 use mathlib.Core.Logic.{inl, inr}
 use mathlib.Core.Path.{refl}
@@ -6,9 +6,9 @@ use native.Mathlib.Omega.{arith}
 use borrow.Author.Needs.{needs}
 use borrow.Author.Tests.{not-true, not-false}
 use Rattle.le.proofs.Rows.{holds-less, holds-index}
-use Rattle.checks.proofs.Marked.{first-stop, second-next}
-use Rattle.checks.proofs.mark_edge.Statement.{statement}
-use Rattle.checks.proofs.mark_edge.Tie as tie
+use Rattle.once_fed.proofs.Marked.{first-stop, second-next}
+use Rattle.once_fed.proofs.mark_edge.Statement.{statement}
+use Rattle.once_fed.proofs.mark_edge.Tie as tie
 
 returns : tie.Need-returns
 returns c =

@@ -1,4 +1,4 @@
--- `checks::mark_list` meets its contract.
+-- `once_fed::mark_list` meets its contract.
 -- Assumes nothing.
 use mathlib.Core.Bool.{true}
 use mathlib.Core.Path.{_≡_, refl, _∙_}
@@ -9,13 +9,13 @@ use native.Mathlib.Omega.{arith}
 use lib.ListN.{length}
 use denote.Ref.{now}
 use borrow.Author.Tests.{not-true, not-false}
-use Rattle.checks.specs.Marked.{Marks}
+use Rattle.once_fed.specs.Marked.{Marks}
 use Rattle.le.specs.Rows.{span}
 use Rattle.le.proofs.Numbers.{below-at}
 use Rattle.le.proofs.Rows.{holds-less, holds-index, length-span, span-at}
-use Rattle.checks.proofs.Marked.{list-start, list-turn, list-stop}
-use Rattle.checks.proofs.mark_list.Statement.{statement}
-use Rattle.checks.proofs.mark_list.Tie as tie
+use Rattle.once_fed.proofs.Marked.{list-start, list-turn, list-stop}
+use Rattle.once_fed.proofs.mark_list.Statement.{statement}
+use Rattle.once_fed.proofs.mark_list.Tie as tie
 
 abbrev Inv-loop : tie.InvT-loop
 Inv-loop src r k n nodes room₀ way i₀ room i = (i ≤ n) × (length room ≡ length room₀) × Marks room₀ room nodes true way (span src r k i)

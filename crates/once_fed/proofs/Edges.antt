@@ -8,7 +8,7 @@ use Prim.Native.Nat.{ℕ, suc, _+_, _≤_, _<_}
 use native.Mathlib.Omega.{arith}
 use lib.ListN.{length, getD, take, drop}
 use lib.Seq.{take-all}
-use Rattle.checks.specs.Marked.{Marked, Twice, MarksBoth}
+use Rattle.once_fed.specs.Marked.{Marked, Twice, MarksBoth}
 use Rattle.form.specs.Form.{bodyOf, edgeIn}
 use Rattle.form.specs.Stored.{graphOf, Stored, EdgeThere}
 use Rattle.form.specs.declared.EdgeAt.{EdgeAt}
@@ -24,7 +24,7 @@ use Rattle.graph.proofs.Monogamous.{occurrences-append}
 use Rattle.graph.proofs.Laws.{joined-append, joined-at}
 use Rattle.graph.proofs.Rows.{take-edges}
 use Rattle.le.proofs.Rows.{holds-less}
-use Rattle.checks.proofs.Marked.{twice-among, twice-other, marked-other}
+use Rattle.once_fed.proofs.Marked.{twice-among, twice-other, marked-other}
 
 -- the entries of one way, with those of one edge more
 one-more : (part : Edge → List ℕ) (es : List Edge) (i : ℕ) → i < length es → joined part (take (i + 1) es) ≡ joined part (take i es) ++ part (getD es i noEdge)

@@ -1,4 +1,4 @@
--- `checks::mark_edges` meets its contract.
+-- `once_fed::mark_edges` meets its contract.
 -- Assumes nothing.
 use mathlib.Core.Path.{_≡_, refl, sym, _∙_, subst}
 use Prim.Native.Nat.{_+_, _≤_, _-_}
@@ -10,10 +10,10 @@ use borrow.Author.Tests.{not-true, not-false}
 use Rattle.le.specs.Rows.{Holds}
 use Rattle.le.specs.declared.Row.{Row}
 use Rattle.form.proofs.Stored.{stored-rows}
-use Rattle.checks.proofs.Edges.{Sofar, Fit, begun, there, fit, ended}
-use Rattle.checks.proofs.Marked.{marked-cleared}
-use Rattle.checks.proofs.mark_edges.Statement.{statement}
-use Rattle.checks.proofs.mark_edges.Tie as tie
+use Rattle.once_fed.proofs.Edges.{Sofar, Fit, begun, there, fit, ended}
+use Rattle.once_fed.proofs.Marked.{marked-cleared}
+use Rattle.once_fed.proofs.mark_edges.Statement.{statement}
+use Rattle.once_fed.proofs.mark_edges.Tie as tie
 
 abbrev Inv-loop : tie.InvT-loop
 Inv-loop src z room₀ row k₀ i₀ i-end room k i = (i ≤ z .edges) × (i-end ≡ z .edges) × (length room ≡ length room₀) × Sofar src room (z .nodes) i k

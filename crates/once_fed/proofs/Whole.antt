@@ -5,7 +5,7 @@ use mathlib.Core.List.{List}
 use mathlib.Core.Path.{_≡_}
 use Prim.Native.Nat.{ℕ, _+_}
 use native.Mathlib.Omega.{arith}
-use Rattle.checks.specs.Marked.{Twice, Fared, MarksBoth, AllMarked}
+use Rattle.once_fed.specs.Marked.{Twice, Fared, MarksBoth, AllMarked}
 use Rattle.form.specs.Form.{bodyOf, listsFrom}
 use Rattle.form.specs.Stored.{graphOf, Stored}
 use Rattle.form.specs.declared.Sizes.{Sizes}
@@ -15,8 +15,8 @@ use Rattle.le.specs.Rows.{span}
 use Rattle.le.specs.declared.Row.{Row}
 use Rattle.form.proofs.Stored.{stored-rows}
 use Rattle.graph.proofs.Monogamous.{occurrences-append}
-use Rattle.checks.proofs.Edges.{is-nodes}
-use Rattle.checks.proofs.Marked.{twice-among, twice-not, marked-says}
+use Rattle.once_fed.proofs.Edges.{is-nodes}
+use Rattle.once_fed.proofs.Marked.{twice-among, twice-not, marked-says}
 
 -- the global lists stand in the row
 module _ {b : List ℕ} {z : Sizes} (s : Stored b z) (row : Row) (is : row ≡ bodyOf z) where

@@ -1,12 +1,12 @@
--- `checks::all_marked` meets its contract.
+-- `once_fed::all_marked` meets its contract.
 -- Assumes nothing.
 use mathlib.Core.Path.{_≡_}
 use Prim.Native.Nat.{ℕ, _≤_, _<_, _-_}
 use native.Mathlib.Omega.{arith}
 use lib.ListN.{getD}
 use borrow.Author.Count.{below-more}
-use Rattle.checks.proofs.all_marked.Statement.{statement}
-use Rattle.checks.proofs.all_marked.Tie as tie
+use Rattle.once_fed.proofs.all_marked.Statement.{statement}
+use Rattle.once_fed.proofs.all_marked.Tie as tie
 
 abbrev Inv-loop : tie.InvT-loop
 Inv-loop room nodes id₀ id = (id ≤ nodes) × ((k : ℕ) → k < id → getD room k 0 ≡ 3)

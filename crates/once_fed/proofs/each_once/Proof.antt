@@ -1,15 +1,15 @@
--- `checks::each_once` meets its contract.
+-- `once_fed::each_once` meets its contract.
 -- Assumes nothing.
 use mathlib.Core.Path.{sym}
 use denote.Ref.{now}
 use borrow.Author.Needs.{needs}
 use borrow.Author.Tests.{not-true, not-false}
-use Rattle.checks.specs.Marked.{Fared}
+use Rattle.once_fed.specs.Marked.{Fared}
 use Rattle.form.specs.Stored.{graphOf}
 use Rattle.graph.specs.Checks.{feeds, uses}
-use Rattle.checks.proofs.Whole.{edges-stop, lists-marked, lists-stop, lists-end}
-use Rattle.checks.proofs.each_once.Statement.{statement}
-use Rattle.checks.proofs.each_once.Tie as tie
+use Rattle.once_fed.proofs.Whole.{edges-stop, lists-marked, lists-stop, lists-end}
+use Rattle.once_fed.proofs.each_once.Statement.{statement}
+use Rattle.once_fed.proofs.each_once.Tie as tie
 
 -- the table after the global lists
 marked : (c : tie.After-mark-lists) → let a = c .before .before .before .before .before .before .before .before .before .args in

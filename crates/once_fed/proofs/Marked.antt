@@ -12,7 +12,7 @@ use lib.Dec.{eqb}
 use lib.ListN.{length, getD, set, replicate, getD-replicate, length-replicate}
 use lib.Seq.{getD-set-same, getD-set-other, sets}
 use borrow.Author.Tests.{eqb-true, eqb-false, eq-eqb, ne-eqb, not-true, not-false}
-use Rattle.checks.specs.Marked.{Marked, Twice, Way, Fared, Marks, MarksBoth, AllMarked}
+use Rattle.once_fed.specs.Marked.{Marked, Twice, Way, Fared, Marks, MarksBoth, AllMarked}
 use Rattle.graph.specs.Checks.{feeds, uses, monogamous}
 use Rattle.graph.specs.Graph.{Graph}
 use Rattle.graph.specs.Lists.{occurrences}

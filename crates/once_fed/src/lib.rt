@@ -11,7 +11,7 @@ ghost use Rattle.graph.specs.Checks.{monogamous};
 ghost use Rattle.graph.specs.Calls.{onceFedCall};
 ghost use Rattle.form.specs.Form.{outcome};
 ghost use Rattle.form.specs.Stored.{graphOf, Stored};
-ghost use Rattle.checks.specs.Marked.{Way, Fared, Marks, MarksBoth, AllMarked};
+ghost use Rattle.once_fed.specs.Marked.{Way, Fared, Marks, MarksBoth, AllMarked};
 use form::Outcome;
 use form::Reading;
 use form::Sizes;

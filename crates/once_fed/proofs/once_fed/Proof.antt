@@ -1,4 +1,4 @@
--- `checks::once_fed` meets its contract.
+-- `once_fed::once_fed` meets its contract.
 -- Assumes nothing.
 use mathlib.Core.Bool.{Bool, cond}
 use mathlib.Core.Path.{_≡_, sym, ap, _∙_}
@@ -18,8 +18,8 @@ use Rattle.graph.specs.Versions as versions
 use Rattle.form.proofs.Stored.{stored-bytes}
 use Rattle.form.proofs.Answers.{room-enough}
 use Rattle.form.proofs.Pairless.{room-short, graph-unread, graph-paired, graph-pairless}
-use Rattle.checks.proofs.once_fed.Statement.{statement}
-use Rattle.checks.proofs.once_fed.Tie as tie
+use Rattle.once_fed.proofs.once_fed.Statement.{statement}
+use Rattle.once_fed.proofs.once_fed.Tie as tie
 
 -- the answer
 abbrev next : versions.StoredGraph → Graph → Answer Result
