@@ -1,0 +1,88 @@
+-- What a caller of the choice, of spiderizing its list and of the no-loop check may rely on where the code is 0: promises about the returned number
+-- and the bytes of the lent buffers alone, one field for each. `codeIn`, `aIn` and `bIn` take the number apart.
+-- Assumes nothing.
+use mathlib.Core.Path.{_≡_}
+use mathlib.Core.Bool.{cond}
+use mathlib.Core.List.{List, []}
+use mathlib.Core.Logic.{_↔_}
+use Prim.Native.Nat.{ℕ, _+_, _*_, _≤_}
+use lib.Dec.{eqb}
+use lib.ListN.{length, take, drop}
+use Rattle.le.specs.Le.{Below, numberAt, numbers}
+use Rattle.graph.specs.Answer.{answered}
+use Rattle.graph.specs.Form.{encode}
+use Rattle.graph.specs.Graph.{Graph, WellFormed}
+use Rattle.graph.specs.Spider.{spiderize}
+use Rattle.graph.specs.Versions.{fitting, read}
+use Rattle.choice.specs.Arcs.{In, vertices, Cycle, NoCycle}
+use Rattle.choice.specs.Choice.{Chooses, Ascends}
+use Rattle.choice.specs.Drawing.{arcs, vertexCount, selectable}
+use Rattle.ohg.specs.Unpacked.{aIn, bIn}
+
+-- the bytes of an id in the lists of a call on these bytes, as ohg_width of the header tells them: 4 where the version is 2, else 2
+abbrev pub widthIn : List ℕ → ℕ
+widthIn b = cond (eqb (numberAt 2 b 3) 2) 4 2
+
+-- the bytes that the first a ids of a list buffer take, and these ids
+abbrev pub listBytes : List ℕ → ℕ → ℕ
+listBytes b r = aIn r * widthIn b
+
+abbrev pub listed : List ℕ → ℕ → List ℕ → List ℕ
+listed b r list = numbers (widthIn b) (aIn r) list
+
+-- the bytes b are the graph g
+pub record Draws (b : List ℕ) (g : Graph) : Type 0 where
+  -- they are read as it
+  pub stored : read b ≡ answered (record { format = fitting g; graph = g })
+  -- and are what writing it gives
+  pub written : encode (fitting g) g ≡ b
+  -- it is within the limits of its version, and its ids are below its node count
+  pub formed : WellFormed (fitting g) g
+
+-- ohg_cycle_breaking_nodes on the bytes b returned r, and its list buffer was old and is new
+pub record ToldChoice (b : List ℕ) (r : ℕ) (old new : List ℕ) (g : Graph) : Type 0 where
+  -- the bytes are this graph
+  pub drawing : Draws b g
+  -- which has no pending pair
+  pub pairless : length (g .pairs) ≡ 0
+  -- the listed ids ascend strictly
+  pub ascends : Ascends (listed b r new)
+  -- each is a node
+  pub nodes : Below (length (g .labels)) (listed b r new)
+  -- there are none exactly if no directed cycle exists
+  pub none : (listed b r new ≡ []) ↔ NoCycle (arcs g)
+  -- every directed cycle passes through one of them
+  pub meets : (c : List ℕ) → Cycle (arcs g) c → (v : ℕ) × In v c × In v (listed b r new)
+  -- every run of the stages, whatever the order of its free removals, chooses just these ids and makes just b free removals
+  pub every-run : (ids : List ℕ) (free : ℕ) → Chooses (arcs g) (selectable g) (vertices (vertexCount g)) ids free → (ids ≡ listed b r new) × (free ≡ bIn r)
+  -- and there is such a run
+  pub some-run : Chooses (arcs g) (selectable g) (vertices (vertexCount g)) (listed b r new) (bIn r)
+  -- a and b together are all nodes and edges
+  pub all : aIn r + bIn r ≡ length (g .labels) + length (g .edges)
+  -- the list is wholly in the buffer, and what was behind it stays
+  pub fits : listBytes b r ≤ length old
+  pub stays : drop (listBytes b r) new ≡ drop (listBytes b r) old
+
+-- ohg_spiderize_nodes on the bytes b and that list, which is the first a ids of the buffer `list` by the number c, returned r; its buffer was old and is
+-- new; g is the graph that was read, and k the one that is answered
+pub record ToldSpiderized (b : List ℕ) (c : ℕ) (list : List ℕ) (r : ℕ) (old new : List ℕ) (g k : Graph) : Type 0 where
+  -- the bytes that were read are the one graph
+  pub drawing : Draws b g
+  -- the first a bytes of the buffer are the other
+  pub answer : Draws (take (aIn r) new) k
+  -- which is the first spiderized at the listed nodes
+  pub spiderized : k ≡ spiderize (listed b c list) g
+  -- it has no directed cycle
+  pub none : NoCycle (arcs k)
+  -- it is wholly in the buffer, and what was behind it stays
+  pub fits : aIn r ≤ length old
+  pub stays : drop (aIn r) new ≡ drop (aIn r) old
+
+-- ohg_no_loop on the bytes b returned r
+pub record ToldNoLoop (b : List ℕ) (r : ℕ) (g : Graph) : Type 0 where
+  -- the bytes are this graph
+  pub drawing : Draws b g
+  -- a is 1 exactly if it has no directed cycle
+  pub says-yes : (aIn r ≡ 1) ↔ NoCycle (arcs g)
+  -- and 0 exactly if it has one
+  pub says-no : (aIn r ≡ 0) ↔ ((c : List ℕ) × Cycle (arcs g) c)
