@@ -1,7 +1,7 @@
 -- 02, T-01: spiderizing merges first and maps its id list. What its calls answer, in the order of the refusals.
 -- Assumes nothing.
 use mathlib.Core.Bool.{Bool, true, false}
-use mathlib.Core.List.{List, [], _∷_}
+use mathlib.Core.List.{List}
 use mathlib.Core.Path.{_≡_, refl, sym, ap, _∙_}
 use Prim.Native.Nat.{ℕ, _<_}
 use native.Mathlib.Omega.{arith}
@@ -9,22 +9,18 @@ use lib.Dec.{ltb}
 use lib.ListN.{length, getD}
 use borrow.Author.Tests.{ltb-true, ltb-false}
 use Rattle.graph.specs.Answer.{Refusal, Answer, refused, answered}
-use Rattle.graph.specs.Calls.{Next, idList, fit, inWorkRoom, made, onGraph, spiderizeStep, spiderizeAllStep, roomSpiderize, spiderizeCall, spiderizeNodesCall}
+use Rattle.graph.specs.Calls.{idList, spiderizeStep, spiderizeAllStep}
 use Rattle.graph.specs.Graph.{Graph, Format, Proper}
 use Rattle.graph.specs.Lists.{range, among}
 use Rattle.graph.specs.Merge.{Merged, looked, quotient}
 use Rattle.graph.specs.Spider.{spiderize}
-use Rattle.graph.specs.Versions.{read, store}
 use Rattle.le.proofs.Numbers.{below-each}
 use Rattle.graph.proofs.Answers.{ids-below}
 use Rattle.graph.proofs.Kept.{below-range}
 use Rattle.graph.proofs.Lists.{among-at, not-among, length-range, getD-range}
 use Rattle.graph.proofs.Merged.{looked-all, looked-range, quotient-merges, quotient-unpaired}
-use Rattle.graph.proofs.Reading.{readRefusals}
-use Rattle.graph.proofs.Refuses.{RefusedBy, answer-by, test-by, step-by, wider-by}
 use Rattle.graph.proofs.Sentences.{spiderize-same}
 use Rattle.graph.proofs.Steps.{stops, goes}
-use Rattle.graph.proofs.Versions.{read-by}
 
 -- ---- 7 before 11
 
@@ -98,34 +94,3 @@ spiderize-all-listed-all f listed g p e = go (quotient g) refl
         ∙ ap (λ (l : List ℕ). answered (record { graph = spiderize l (m .graph); id = 0 })) (looked-range (m .ids) (length (g .labels)) (quotient-merges g p m k .long))
         ∙ ap (λ (h : Graph). answered (record { graph = h; id = 0 })) (spiderize-same (m .ids) (range 0 (length (m .graph .labels))) (map-is-all g p m k) (m .graph))
         ∙ sym (spiderize-all-0 g m k)
-
--- ---- neither call gives 8: their refusals are 1 to 7, 9, 10, 11 and 13
-
-abbrev spiderRefusals : List ℕ
-spiderRefusals = 1 ∷ 2 ∷ 3 ∷ 4 ∷ 5 ∷ 6 ∷ 7 ∷ 9 ∷ 10 ∷ 11 ∷ 13 ∷ []
-
-merges-by : (g : Graph) → RefusedBy spiderRefusals (quotient g)
-unfolding quotient
-merges-by g = test-by _ _ _ refl (answer-by _)
-
-step-by-list : (f : Format) (listed : List ℕ) (g : Graph) → RefusedBy spiderRefusals (spiderizeStep f listed g)
-unfolding spiderizeStep idList
-step-by-list f listed g =
-    step-by _ _ (test-by _ _ _ refl (test-by _ _ _ refl (answer-by _))) (λ listed. step-by _ _ (merges-by g) (λ m. answer-by _))
-
-step-by-all : (g : Graph) → RefusedBy spiderRefusals (spiderizeAllStep g)
-unfolding spiderizeAllStep
-step-by-all g = step-by _ _ (merges-by g) (λ m. answer-by _)
-
-call-by : (b : List ℕ) (room workRoom : ℕ) (step : Format → Graph → Answer Next) → ((f : Format) (g : Graph) → RefusedBy spiderRefusals (step f g))
-    → RefusedBy spiderRefusals (inWorkRoom roomSpiderize workRoom (onGraph b room step))
-unfolding inWorkRoom onGraph made store fit
-call-by b room workRoom step h =
-    test-by _ _ _ refl (step-by (read b) _ (wider-by readRefusals spiderRefusals refl (read-by b)) (λ s. step-by (step (s .format) (s .graph)) _ (h (s .format) (s .graph))
-    (λ x. step-by _ _ (test-by _ _ _ refl (answer-by _)) (λ form. step-by _ _ (test-by _ _ _ refl (answer-by _)) (λ form. answer-by _)))))
-
-pub spiderize-nodes-by : (b listed : List ℕ) (room workRoom : ℕ) → RefusedBy spiderRefusals (spiderizeNodesCall b listed room workRoom)
-spiderize-nodes-by b listed room workRoom = call-by b room workRoom (λ f. spiderizeStep f listed) (λ f. step-by-list f listed)
-
-pub spiderize-by : (b : List ℕ) (room workRoom : ℕ) → RefusedBy spiderRefusals (spiderizeCall b room workRoom)
-spiderize-by b room workRoom = call-by b room workRoom (λ f. spiderizeAllStep) (λ f. step-by-all)

@@ -2,7 +2,7 @@
 -- Assumes nothing.
 use mathlib.Core.Bool.{Bool, true, false}
 use mathlib.Core.List.{List}
-use mathlib.Core.Path.{_≡_, sym, ap, subst}
+use mathlib.Core.Path.{_≡_, refl, sym, ap, subst}
 use Prim.Native.Nat.{ℕ, _≤_, _<_, _^_}
 use native.Mathlib.Omega.{arith}
 use lib.ListN.{length}
@@ -15,9 +15,13 @@ use Rattle.choice.specs.Drawing.{noLoop}
 use Rattle.le.specs.Le.{Below}
 use Rattle.choice.specs.Calls.{cycleBreakingNodesCall, noLoopCall}
 use Rattle.choice.proofs.Graphs.{chosen-and-free-are-all}
-use Rattle.choice.proofs.Stored.{cycle-breaking-nodes-answer, no-loop-answer, cycle-breaking-nodes-listed, no-loop-listed}
+use Rattle.choice.proofs.Stored.{cycle-breaking-nodes-answer, no-loop-answer}
 use Rattle.graph.proofs.Answers.{FormOf, Keeps, on-graph-answer, on-nothing-answer, read-answer, delete-nodes-answer, quotient-call-answer, once-fed-answer, worked, rewrite-kept, empty-kept, discrete-kept, identity-kept, singleton-kept, new-node-kept, new-edge-kept, new-operation-kept, unify-kept, add-source-kept, add-target-kept, delete-edges-kept, spiderize-kept, spiderize-all-kept}
-use Rattle.graph.proofs.Refusals.{Listed, refused-in, on-graph-listed, on-nothing-listed, work-listed, read-listed, rewrite-listed, empty-listed, discrete-listed, identity-listed, singleton-listed, new-node-listed, new-edge-listed, new-operation-listed, unify-listed, add-source-listed, add-target-listed, delete-edges-listed, spiderize-listed, spiderize-all-listed, delete-nodes-call-listed, quotient-call-listed, once-fed-listed}
+use Rattle.graph.specs.RefusedBy.{readCallRefusals, rewriteRefusals, emptyRefusals, discreteRefusals, identityRefusals, singletonRefusals, newNodeRefusals, newEdgeRefusals, newOperationRefusals, unifyRefusals, addEdgeSourceRefusals, addEdgeTargetRefusals, deleteEdgesRefusals, deleteNodesRefusals, quotientRefusals, spiderizeRefusals, spiderizeNodesRefusals, onceFedRefusals}
+use Rattle.choice.specs.RefusedBy.{cycleBreakingNodesRefusals, noLoopRefusals}
+use Rattle.graph.proofs.Refusals.{Listed, listed, refused-in}
+use Rattle.graph.proofs.RefusedBy.{read-call-by, rewrite-by, empty-by, discrete-by, identity-by, singleton-by, new-node-by, new-edge-by, new-operation-by, unify-by, add-edge-source-by, add-edge-target-by, delete-edges-by, delete-nodes-by, quotient-by, spiderize-by, spiderize-nodes-by, once-fed-by}
+use Rattle.choice.proofs.RefusedBy.{cycle-breaking-nodes-by, no-loop-by}
 use Rattle.graph.proofs.Steps.{same-answer, came}
 use Rattle.graph.proofs.Versions.{read-sound, longest}
 use Rattle.ohg.specs.Packed.{Ranged}
@@ -48,35 +52,35 @@ says {m} false e = rw e (omega arith, omega arith)
 -- ---- calls that write a graph
 
 module _ (b : List ℕ) (t : Below 256 b) (room : ℕ) where
-  graph-ranged : (step : Format → Graph → Answer Next) → ((f : Format) → Keeps (step f)) → ((f : Format) (g : Graph) → Listed (step f g)) → Small step
-      → Ranged (onGraph b room step)
-  graph-ranged step keeps listed small = record {
-    no = λ r e. refused-in (on-graph-listed b room step listed) e;
-    numbers = λ m e.
-        let h = on-graph-answer b room step m t keeps e in
-        let s = h .0 in
-        let sound = read-sound b s t (h .2) in
-        writes (h .5) (form-short (h .4)) (small (s .format) (s .graph) (h .1) (sound .version .grows (s .graph) (sound .formed)) (h .3));
-  }
+  graph-numbers : (step : Format → Graph → Answer Next) → ((f : Format) → Keeps (step f)) → Small step → (m : Result) → onGraph b room step ≡ answered m
+      → (m .a < 2 ^ 24) × (m .b < 2 ^ 32)
+  graph-numbers step keeps small m e =
+      let h = on-graph-answer b room step m t keeps e in
+      let s = h .0 in
+      let sound = read-sound b s t (h .2) in
+      writes (h .5) (form-short (h .4)) (small (s .format) (s .graph) (h .1) (sound .version .grows (s .graph) (sound .formed)) (h .3))
+
+  graph-ranged : (step : Format → Graph → Answer Next) → ((f : Format) → Keeps (step f)) → Listed (onGraph b room step) → Small step → Ranged (onGraph b room step)
+  graph-ranged step keeps l small = record { no = λ r e. refused-in l e; numbers = graph-numbers step keeps small }
 
   pub read-ranged : Ranged (readCall b room)
   read-ranged = record {
-    no = λ r e. refused-in (read-listed b room) e;
+    no = λ r e. refused-in (listed readCallRefusals refl (read-call-by b room)) e;
     numbers = λ m e. writes (read-answer b room m e .2) (omega arith) (omega arith);
   }
 
   pub rewrite-ranged : Ranged (rewriteCall b room)
   unfolding rewriteStep
-  rewrite-ranged = graph-ranged (λ f. rewriteStep) (λ f. rewrite-kept) (λ f. rewrite-listed) (λ f g x h e. omega (arith, id-of e))
+  rewrite-ranged = graph-ranged (λ f. rewriteStep) (λ f. rewrite-kept) (listed rewriteRefusals refl (rewrite-by b t room)) (λ f g x h e. omega (arith, id-of e))
 
   pub new-node-ranged : (label : ℕ) → label < 2 ^ 32 → Ranged (newNodeCall b label room)
   unfolding newNodeStep
-  new-node-ranged label l = graph-ranged (λ f. newNodeStep label) (λ f. new-node-kept label l) (λ f. new-node-listed label) (λ f g x h e. omega (arith, id-of e, h .counts .nodes))
+  new-node-ranged label l = graph-ranged (λ f. newNodeStep label) (λ f. new-node-kept label l) (listed newNodeRefusals refl (new-node-by b label room)) (λ f g x h e. omega (arith, id-of e, h .counts .nodes))
 
   pub new-edge-ranged : (label : ℕ) (s u : List ℕ) → label < 2 ^ 32 → Ranged (newEdgeCall b label s u room)
   unfolding newEdgeStep
   new-edge-ranged label s u l =
-      graph-ranged (λ f. newEdgeStep f label s u) (λ f. new-edge-kept f label s u l) (λ f. new-edge-listed f label s u)
+      graph-ranged (λ f. newEdgeStep f label s u) (λ f. new-edge-kept f label s u l) (listed newEdgeRefusals refl (new-edge-by b label s u room))
       (λ f g x h e.
       let p = came (idList f (length (g .labels)) s) _ e in
       let q = came (idList f (length (g .labels)) u) _ (p .2) in
@@ -85,7 +89,7 @@ module _ (b : List ℕ) (t : Below 256 b) (room : ℕ) where
   pub new-operation-ranged : (label : ℕ) (s u : List ℕ) → label < 2 ^ 32 → Below 256 s → Below 256 u → Ranged (newOperationCall b label s u room)
   unfolding newOperationStep
   new-operation-ranged label s u l ts tu =
-      graph-ranged (λ f. newOperationStep label s u) (λ f. new-operation-kept label s u l ts tu) (λ f. new-operation-listed label s u)
+      graph-ranged (λ f. newOperationStep label s u) (λ f. new-operation-kept label s u l ts tu) (listed newOperationRefusals refl (new-operation-by b label s u room))
       (λ f g x h e.
       let p = came (labelList s) _ e in
       let q = came (labelList u) _ (p .2) in
@@ -94,7 +98,7 @@ module _ (b : List ℕ) (t : Below 256 b) (room : ℕ) where
   pub unify-ranged : (v w : ℕ) → Ranged (unifyCall b v w room)
   unfolding unifyStep
   unify-ranged v w =
-      graph-ranged (λ f. unifyStep v w) (λ f. unify-kept v w) (λ f. unify-listed v w)
+      graph-ranged (λ f. unifyStep v w) (λ f. unify-kept v w) (listed unifyRefusals refl (unify-by b v w room))
       (λ f g x h e.
       let p = came (known (length (g .labels)) v) _ e in
       let q = came (known (length (g .labels)) w) _ (p .2) in
@@ -103,44 +107,40 @@ module _ (b : List ℕ) (t : Below 256 b) (room : ℕ) where
   pub add-source-ranged : (edge label : ℕ) → label < 2 ^ 32 → Ranged (addEdgeSourceCall b edge label room)
   unfolding addEdgeSourceStep
   add-source-ranged edge label l =
-      graph-ranged (λ f. addEdgeSourceStep edge label) (λ f. add-source-kept edge label l) (λ f. add-source-listed edge label)
+      graph-ranged (λ f. addEdgeSourceStep edge label) (λ f. add-source-kept edge label l) (listed addEdgeSourceRefusals refl (add-edge-source-by b edge label room))
       (λ f g x h e. let p = came (known (length (g .edges)) edge) _ e in omega (arith, id-of (p .2), h .counts .nodes))
 
   pub add-target-ranged : (edge label : ℕ) → label < 2 ^ 32 → Ranged (addEdgeTargetCall b edge label room)
   unfolding addEdgeTargetStep
   add-target-ranged edge label l =
-      graph-ranged (λ f. addEdgeTargetStep edge label) (λ f. add-target-kept edge label l) (λ f. add-target-listed edge label)
+      graph-ranged (λ f. addEdgeTargetStep edge label) (λ f. add-target-kept edge label l) (listed addEdgeTargetRefusals refl (add-edge-target-by b edge label room))
       (λ f g x h e. let p = came (known (length (g .edges)) edge) _ e in omega (arith, id-of (p .2), h .counts .nodes))
 
   -- ---- calls that are lent work room
 
-  work-ranged : (needed lent : ℕ) (a : Answer Result) → Listed a → ((m : Result) → a ≡ answered m → (m .a < 2 ^ 24) × (m .b < 2 ^ 32)) → Ranged (inWorkRoom needed lent a)
-  work-ranged needed lent a l h = record {
-    no = λ r e. refused-in (work-listed needed lent a l) e;
-    numbers = λ m e. h m (worked needed lent a e);
-  }
-
-  graph-work-ranged : (needed lent : ℕ) (step : Format → Graph → Answer Next) → ((f : Format) → Keeps (step f)) → ((f : Format) (g : Graph) → Listed (step f g))
+  graph-work-ranged : (needed lent : ℕ) (step : Format → Graph → Answer Next) → ((f : Format) → Keeps (step f)) → Listed (inWorkRoom needed lent (onGraph b room step))
       → Small step → Ranged (inWorkRoom needed lent (onGraph b room step))
-  graph-work-ranged needed lent step keeps listed small =
-      work-ranged needed lent (onGraph b room step) (on-graph-listed b room step listed) (graph-ranged step keeps listed small .numbers)
+  graph-work-ranged needed lent step keeps l small = record {
+    no = λ r e. refused-in l e;
+    numbers = λ m e. graph-numbers step keeps small m (worked needed lent (onGraph b room step) e);
+  }
 
   pub delete-edges-ranged : (gone : List ℕ) (workRoom : ℕ) → Ranged (deleteEdgesCall b gone room workRoom)
   unfolding deleteEdgesStep
   delete-edges-ranged gone workRoom =
-      graph-work-ranged _ workRoom (λ f. deleteEdgesStep f gone) (λ f. delete-edges-kept f gone) (λ f. delete-edges-listed f gone)
+      graph-work-ranged _ workRoom (λ f. deleteEdgesStep f gone) (λ f. delete-edges-kept f gone) (listed deleteEdgesRefusals refl (delete-edges-by b t gone room workRoom))
       (λ f g x h e. let p = came (idList f (length (g .edges)) gone) _ e in omega (arith, id-of (p .2)))
 
   pub spiderize-ranged : (workRoom : ℕ) → Ranged (spiderizeCall b room workRoom)
   unfolding spiderizeAllStep
   spiderize-ranged workRoom =
-      graph-work-ranged _ workRoom (λ f. spiderizeAllStep) (λ f. spiderize-all-kept) (λ f. spiderize-all-listed)
+      graph-work-ranged _ workRoom (λ f. spiderizeAllStep) (λ f. spiderize-all-kept) (listed spiderizeRefusals refl (spiderize-by b room workRoom))
       (λ f g x h e. let q = came (quotient g) _ e in omega (arith, id-of (q .2)))
 
   pub spiderize-nodes-ranged : (list : List ℕ) (workRoom : ℕ) → Ranged (spiderizeNodesCall b list room workRoom)
   unfolding spiderizeStep
   spiderize-nodes-ranged list workRoom =
-      graph-work-ranged _ workRoom (λ f. spiderizeStep f list) (λ f. spiderize-kept f list) (λ f. spiderize-listed f list)
+      graph-work-ranged _ workRoom (λ f. spiderizeStep f list) (λ f. spiderize-kept f list) (listed spiderizeNodesRefusals refl (spiderize-nodes-by b list room workRoom))
       (λ f g x h e.
       let p = came (idList f (length (g .labels)) list) _ e in
       let q = came (quotient g) _ (p .2) in
@@ -148,7 +148,7 @@ module _ (b : List ℕ) (t : Below 256 b) (room : ℕ) where
 
   pub delete-nodes-ranged : (gone : List ℕ) (mapRoom workRoom : ℕ) → Ranged (deleteNodesCall b gone room mapRoom workRoom)
   delete-nodes-ranged gone mapRoom workRoom = record {
-    no = λ r e. refused-in (delete-nodes-call-listed b gone room mapRoom workRoom) e;
+    no = λ r e. refused-in (listed deleteNodesRefusals refl (delete-nodes-by b t gone room mapRoom workRoom)) e;
     numbers = λ m e.
         let h = delete-nodes-answer b gone room mapRoom workRoom m t e in
         let s = h .0 in
@@ -159,7 +159,7 @@ module _ (b : List ℕ) (t : Below 256 b) (room : ℕ) where
 
   pub quotient-ranged : (mapRoom workRoom : ℕ) → Ranged (quotientCall b room mapRoom workRoom)
   quotient-ranged mapRoom workRoom = record {
-    no = λ r e. refused-in (quotient-call-listed b room mapRoom workRoom) e;
+    no = λ r e. refused-in (listed quotientRefusals refl (quotient-by b t room mapRoom workRoom)) e;
     numbers = λ m e.
         let h = quotient-call-answer b room mapRoom workRoom m t e in
         let s = h .0 in
@@ -170,7 +170,7 @@ module _ (b : List ℕ) (t : Below 256 b) (room : ℕ) where
 
   pub cycle-breaking-nodes-ranged : (workRoom : ℕ) → Ranged (cycleBreakingNodesCall b room workRoom)
   cycle-breaking-nodes-ranged workRoom = record {
-    no = λ r e. refused-in (cycle-breaking-nodes-listed b room workRoom) e;
+    no = λ r e. refused-in (listed cycleBreakingNodesRefusals refl (cycle-breaking-nodes-by b room workRoom)) e;
     numbers = λ m e.
         let h = cycle-breaking-nodes-answer b t room workRoom m e in
         let s = h .0 in
@@ -184,22 +184,22 @@ module _ (b : List ℕ) (t : Below 256 b) (room : ℕ) where
 
 pub no-loop-ranged : (b : List ℕ) → Below 256 b → (workRoom : ℕ) → Ranged (noLoopCall b workRoom)
 no-loop-ranged b t workRoom = record {
-  no = λ r e. refused-in (no-loop-listed b workRoom) e;
+  no = λ r e. refused-in (listed noLoopRefusals refl (no-loop-by b workRoom)) e;
   numbers = λ m e. let h = no-loop-answer b t workRoom m e in says (noLoop (h .0 .graph)) (h .2);
 }
 
 pub once-fed-ranged : (b : List ℕ) (workRoom : ℕ) → Ranged (onceFedCall b workRoom)
 once-fed-ranged b workRoom = record {
-  no = λ r e. refused-in (once-fed-listed b workRoom) e;
+  no = λ r e. refused-in (listed onceFedRefusals refl (once-fed-by b workRoom)) e;
   numbers = λ m e. let h = once-fed-answer b workRoom m e in says (monogamous (h .0 .graph)) (h .2);
 }
 
 -- ---- calls without a graph
 
-nothing-ranged : (room : ℕ) (start : Answer Next) → ((x : Next) → start ≡ answered x → Proper (x .graph)) → Listed start → ((x : Next) → start ≡ answered x → x .id ≡ 0)
+nothing-ranged : (room : ℕ) (start : Answer Next) → ((x : Next) → start ≡ answered x → Proper (x .graph)) → Listed (onNothing room start) → ((x : Next) → start ≡ answered x → x .id ≡ 0)
     → Ranged (onNothing room start)
-nothing-ranged room start keeps listed zero-id = record {
-  no = λ r e. refused-in (on-nothing-listed room start listed) e;
+nothing-ranged room start keeps l zero-id = record {
+  no = λ r e. refused-in l e;
   numbers = λ m e.
       let h = on-nothing-answer room start m keeps e in
       writes (h .3) (form-short (h .2)) (omega (arith, zero-id (h .0) (h .1)));
@@ -207,22 +207,22 @@ nothing-ranged room start keeps listed zero-id = record {
 
 pub empty-ranged : (room : ℕ) → Ranged (emptyCall room)
 unfolding emptyStep
-empty-ranged room = nothing-ranged room emptyStep empty-kept empty-listed (λ x e. sym (id-of e))
+empty-ranged room = nothing-ranged room emptyStep empty-kept (listed emptyRefusals refl (empty-by room)) (λ x e. sym (id-of e))
 
 pub discrete-ranged : (labels : List ℕ) → Below 256 labels → (room : ℕ) → Ranged (discreteCall labels room)
 unfolding discreteStep
 discrete-ranged labels t room =
-    nothing-ranged room (discreteStep labels) (discrete-kept labels t) (discrete-listed labels) (λ x e. let p = came (labelList labels) _ e in sym (id-of (p .2)))
+    nothing-ranged room (discreteStep labels) (discrete-kept labels t) (listed discreteRefusals refl (discrete-by labels room)) (λ x e. let p = came (labelList labels) _ e in sym (id-of (p .2)))
 
 pub identity-ranged : (labels : List ℕ) → Below 256 labels → (room : ℕ) → Ranged (identityCall labels room)
 unfolding identityStep
 identity-ranged labels t room =
-    nothing-ranged room (identityStep labels) (identity-kept labels t) (identity-listed labels) (λ x e. let p = came (labelList labels) _ e in sym (id-of (p .2)))
+    nothing-ranged room (identityStep labels) (identity-kept labels t) (listed identityRefusals refl (identity-by labels room)) (λ x e. let p = came (labelList labels) _ e in sym (id-of (p .2)))
 
 pub singleton-ranged : (label : ℕ) (s u : List ℕ) → label < 2 ^ 32 → Below 256 s → Below 256 u → (room : ℕ) → Ranged (singletonCall label s u room)
 unfolding singletonStep
 singleton-ranged label s u l ts tu room =
-    nothing-ranged room (singletonStep label s u) (singleton-kept label s u l ts tu) (singleton-listed label s u)
+    nothing-ranged room (singletonStep label s u) (singleton-kept label s u l ts tu) (listed singletonRefusals refl (singleton-by label s u room))
     (λ x e.
     let p = came (labelList s) _ e in
     let q = came (labelList u) _ (p .2) in

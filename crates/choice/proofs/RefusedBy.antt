@@ -1,0 +1,22 @@
+-- Which refusals the choice and the no-loop check can give, whatever they are given.
+-- Assumes nothing.
+use mathlib.Core.List.{List}
+use mathlib.Core.Path.{refl}
+use Prim.Native.Nat.{ℕ}
+use Rattle.graph.proofs.Refuses.{RefusedBy, answer-by, step-by}
+use Rattle.graph.proofs.RefusedBy.{reads-by, unpaired-by, fit-by, work-by}
+use Rattle.choice.specs.Calls.{cycleBroken, cycleBreakingNodesCall, loopFree, noLoopCall}
+use Rattle.choice.specs.RefusedBy.{cycleBreakingNodesRefusals, noLoopRefusals}
+
+pub cycle-breaking-nodes-by : (b : List ℕ) (room workRoom : ℕ) → RefusedBy cycleBreakingNodesRefusals (cycleBreakingNodesCall b room workRoom)
+unfolding cycleBroken
+cycle-breaking-nodes-by b room workRoom =
+    let ns : List ℕ = cycleBreakingNodesRefusals in
+    work-by ns refl _ workRoom _
+    (step-by _ _ (reads-by ns refl b) (λ s. step-by _ _ (unpaired-by ns refl (s .graph)) (λ g. step-by _ _ (fit-by ns refl room _) (λ list. answer-by _))))
+
+pub no-loop-by : (b : List ℕ) (workRoom : ℕ) → RefusedBy noLoopRefusals (noLoopCall b workRoom)
+unfolding loopFree
+no-loop-by b workRoom =
+    let ns : List ℕ = noLoopRefusals in
+    work-by ns refl _ workRoom _ (step-by _ _ (reads-by ns refl b) (λ s. step-by _ _ (unpaired-by ns refl (s .graph)) (λ g. answer-by _)))
