@@ -4,23 +4,24 @@ use mathlib.Core.Path.{_≡_, refl, sym, ap, _∙_, subst}
 use mathlib.Core.Bool.{Bool, true, false, _&&_, cond}
 use mathlib.Core.List.{List, [], _∷_, List·Memᴰ·head, List·Memᴰ·not-nil, List·Memᴰ·cases-cons}
 use mathlib.Core.Logic.{_≢_, _⊎_, inl, inr, ⊎-elim}
-use Prim.Native.Nat.{ℕ, suc, _+_, _-_, _*_, _/_, _%_, _≤_, _<_}
+use Prim.Native.Nat.{ℕ, _+_, _-_, _*_, _%_, _≤_, _<_}
 use native.Mathlib.Nat.{sub-zero, eq-zero-or-pos}
 use native.Mathlib.Decide.{ℕ-discrete}
 use native.Mathlib.Omega.{arith}
 use lib.Dec.{T, eqb}
-use lib.ListN.{length, getD, take, length-append, length-map}
+use lib.ListN.{length, getD, take}
 use lib.Seq.{getD-take, length-take-le}
 use borrow.Author.Tests.{eqb-true, eqb-false, eq-eqb, ne-eqb}
 use Rattle.queue.specs.Keys.{radix}
-use Rattle.graph.specs.Graph.{Edge, Graph, Proper, edgeEntries, ports}
+use Rattle.graph.specs.Graph.{Graph, Proper, ports}
 use Rattle.choice.specs.Arcs.{Arc, In, bump, Set, Stable, has, vertices, into, out}
 use Rattle.choice.specs.Choice.{Chosen, choice}
-use Rattle.choice.specs.Drawing.{edgeArcs, arcsFrom, arcs, vertexCount, chosen, noLoop}
+use Rattle.choice.specs.Drawing.{arcs, vertexCount, chosen, noLoop}
 use Rattle.choice.specs.Promises.{Bounded, Offers}
 use Rattle.choice.proofs.Degrees.{both-degrees}
 use Rattle.choice.proofs.Fits.{fits-apart, proper-fits, proper-bounded, proper-offers}
 use Rattle.choice.proofs.Graphs.{chosen-empty-iff-no-cycle, no-loop-iff-no-cycle}
+use Rattle.choice.proofs.Scores.{length-arcs}
 use Rattle.choice.proofs.Sets.{size-vertices, has-lt, and-left}
 use Rattle.choice.proofs.Cycles.{stable-cycle}
 use Rattle.halves.specs.Halves.{vertex, mate, times, waits, within, Halves, Listed, Between, Going, Seeding, seedTo, peelFrom}
@@ -39,12 +40,6 @@ use Rattle.incidence.proofs.Whole.{listed, degrees-within}
 use Rattle.cycle.specs.Next.{may, degreesIn}
 use Rattle.cycle.specs.Stage.{AllSmall}
 use Rattle.cycle.specs.Begin.{First}
-
--- there is an arc for each port
-length-arcs : (e : ℕ) (es : List Edge) → length (arcsFrom e es) ≡ length (edgeEntries es)
-unfolding arcsFrom edgeArcs
-length-arcs e [] = refl
-length-arcs e (d ∷ es) = simp (length-append, length-map, length-arcs (suc e) es)
 
 nobody : (xs : List ℕ) → ((x : ℕ) → In x xs → ⊥) → xs ≡ []
 nobody [] h = refl
