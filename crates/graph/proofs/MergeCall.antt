@@ -85,7 +85,7 @@ same-version-shorter f g m p e =
     rw (length-encode f (m .graph), length-encode f g) (omega (arith, z .nodes, z .edges, mul-le-mul-right (f .width) less))
 
 -- nor is the form in the version that it fits longer than that of the second version
-fitting-shorter : (g : Graph) → length (encode (fitting g) g) ≤ length (encode form2 g)
+pub fitting-shorter : (g : Graph) → length (encode (fitting g) g) ≤ length (encode form2 g)
 unfolding fittingSizes
 fitting-shorter g = go (withinLimits form1 g)
   where

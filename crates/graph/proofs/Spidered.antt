@@ -60,7 +60,7 @@ module _ (g : Graph) where
 
 -- ---- it is spiderizing the list of all old nodes, as the Rust's is
 
-listed-all : (n v : ℕ) → v < n → among (range 0 n) v ≡ true
+pub listed-all : (n v : ℕ) → v < n → among (range 0 n) v ≡ true
 listed-all n v h =
     let e : getD (range 0 n) v 0 ≡ v = omega (arith, getD-range 0 n v h) in
     ap (among (range 0 n)) (sym e) ∙ among-at (range 0 n) v (omega (arith, length-range 0 n))
