@@ -2,3 +2,4 @@ pub mod Ranges
 pub mod Packing
 pub mod Unpacked
 pub mod Caller
+pub mod Explicit
