@@ -1,34 +1,47 @@
-//! Four calls one after the other, each on what the port answered before: merge, choose, spiderize what was chosen, and ask
-//! for loops. There must be none.
+//! Calls one after the other, each on what the port answered before: merge, choose, spiderize what was chosen, and ask
+//! for loops, of which there must be none; and spiderize all, which must be as T-11 says, by both checks too, and spiderize it
+//! again.
 
-use super::GROUP;
-use crate::call::{Answer, Arguments};
+use super::{explicit, GROUP};
+use crate::call::{Answer, Arguments, Outcome};
 use crate::cases::random;
-use crate::form;
+use crate::classes;
+use crate::convert::{self, to_lax};
+use crate::form::{self, Refusal};
 use crate::run::{Amount, Run};
 
 /// How large its part of a run's calls is, beside the groups' parts.
 pub const SHARE: u64 = 1;
 
 const CYCLE_BREAKING_NODES: u8 = 14;
+const SPIDERIZE: u8 = 15;
 const SPIDERIZE_NODES: u8 = 16;
 const NO_LOOP: u8 = 17;
+const ONCE_FED: u8 = 18;
 const QUOTIENT: u8 = 19;
 
-/// Follows the chain on the graphs that spiderizing is tried on, large and small, and on more by chance.
+/// Follows the chains on the graphs that spiderizing is tried on, large and small, and on more by chance.
 pub fn follow(run: &mut Run, amount: Amount) {
     let end = run.calls() + SHARE * amount.per_share;
     let fixed = (GROUP.fixed)(&mut run.rng).into_iter();
     for form in fixed.chain(run.every(&GROUP, amount)) {
-        follow_on(run, &form);
+        follow_on(run, &form, amount);
     }
     while run.calls() < end {
         let drawing = random::drawing_for(&mut run.rng, &GROUP);
-        follow_on(run, &form::write(&drawing));
+        follow_on(run, &form::write(&drawing), amount);
     }
 }
 
-fn follow_on(run: &mut Run, form: &[u8]) {
+/// A quick run spiderizes one in three.
+fn follow_on(run: &mut Run, form: &[u8], amount: Amount) {
+    choose_on(run, form);
+    if amount.full || run.rng.once_in(3) {
+        spiderize_on(run, form);
+    }
+}
+
+fn choose_on(run: &mut Run, form: &[u8]) {
     let graph = Arguments::new(&[], &[form]);
     let Some(merged) = answered(run, QUOTIENT, graph) else {
         return;
@@ -48,11 +61,44 @@ fn follow_on(run: &mut Run, form: &[u8]) {
     }
 }
 
+/// The sizes of the graph that is read tell how long the answer is, and then whether the answer may be spiderized again.
+fn spiderize_on(run: &mut Run, form: &[u8]) {
+    let graph = Arguments::new(&[], &[form]);
+    let Some(spiderized) = answered(run, SPIDERIZE, graph) else {
+        return;
+    };
+    let all = &spiderized.written[0];
+    let read = |form: &[u8]| to_lax(&form::read(form).expect("it is a good form"));
+    let (graph, result) = (read(form), read(all));
+    explicit::hold(&graph, &result);
+    let (merged, _) = classes::merged(&graph).expect("it was merged");
+    assert_eq!(all.len(), explicit::form_bytes(convert::sizes(&merged)));
+    for check in [ONCE_FED, NO_LOOP] {
+        if let Some(said) = answered(run, check, Arguments::new(&[], &[all])) {
+            assert_eq!(said.a, 1, "both checks say yes once all is spiderized");
+        }
+    }
+    let again = explicit::spiderized_sizes(convert::sizes(&result));
+    match called(run, SPIDERIZE, Arguments::new(&[], &[all])) {
+        Some(Ok(_)) => assert!(again.within_limits()),
+        Some(Err(refused)) => {
+            assert_eq!(refused, Refusal::Result.nowhere());
+            assert!(!again.within_limits());
+        }
+        None => {}
+    }
+}
+
 /// The exact call of a function: its answer, where it has one and the port gave the same.
 fn answered(run: &mut Run, number: u8, arguments: Arguments) -> Option<Answer> {
+    called(run, number, arguments)?.ok()
+}
+
+/// The same, answered or refused.
+fn called(run: &mut Run, number: u8, arguments: Arguments) -> Option<Outcome> {
     let function = run.function(number);
     let outcome = (function.operation.expected)(&arguments);
     let call = function.exact(arguments, &outcome);
     let agreed = run.call(&function, &call, function.due(&call, &outcome));
-    outcome.ok().filter(|_| agreed)
+    agreed.then_some(outcome)
 }

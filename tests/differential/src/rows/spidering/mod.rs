@@ -1,6 +1,7 @@
 //! Spiderizing, which merges first.
 
 pub mod chain;
+mod explicit;
 mod picked;
 
 use super::choice::{self, families};
@@ -13,7 +14,7 @@ use crate::form::{self, Drawing, Refusal, Version, VERSION_1, VERSION_2};
 use crate::operation::Parameter::{Answered, Input, Room};
 use crate::operation::{Forms, Group, Operation};
 use crate::rng::Rng;
-use crate::steps::{graph, made, node_list};
+use crate::steps::{graph, made, node_list, Checked};
 use oracle::lax::spider::WithSpider;
 use oracle::lax::OpenHypergraph;
 use oracle::strict::vec::FiniteFunction;
@@ -50,24 +51,28 @@ const OPERATIONS: &[Operation] = &[
     },
 ];
 
+/// The original's answer must be what T-11 says of it, also where it is past a limit.
 fn spiderize(arguments: &Arguments) -> Outcome {
-    explicit(graph(arguments)?.spiderize())
+    let graph = graph(arguments)?;
+    let spiderized = merged_first(graph.clone().spiderize())?;
+    explicit::hold(&graph, &spiderized);
+    made(&spiderized, 0)
 }
 
 /// 7 comes before 11: ids are looked at before anything is merged, and are those of the graph that was read.
 fn spiderize_nodes(arguments: &Arguments) -> Outcome {
     let graph = graph(arguments)?;
     let nodes = node_list(arguments, 1, &graph)?;
-    explicit(graph.spiderize_nodes(&nodes))
+    made(&merged_first(graph.spiderize_nodes(&nodes))?, 0)
 }
 
 /// A graph of the original's after spiderizing.
 pub type Spiderized = OpenHypergraph<u32, WithSpider<WithSpider<u32>>>;
 
-/// 11, where the original could not merge, then 9.
-fn explicit(spiderized: Result<Spiderized, FiniteFunction>) -> Outcome {
+/// 11, where the original could not merge.
+fn merged_first(spiderized: Result<Spiderized, FiniteFunction>) -> Checked<Graph> {
     let graph = spiderized.map_err(|_| Refusal::Labels.nowhere())?;
-    made(&flattened(graph), 0)
+    Ok(flattened(graph))
 }
 
 /// What spiderizing gives, without the second `WithSpider`: an edge that was a spider stays one.
