@@ -7,3 +7,4 @@ pub mod Begin
 pub mod Ending
 pub mod Flags
 pub mod Calls
+pub mod Entries
