@@ -1,7 +1,9 @@
 // The recorded list taken apart. The list may be broken anywhere, so each place is tested where it is used: past the end nothing is read, and whatever is
 // read from there on leads past the end again.
 ghost use Prim.Native.Nat.{_<_, _≤_};
+ghost use mathlib.Core.Path.{_≡_};
 ghost use lib.ListN.{length};
+ghost use Rattle.replay.specs.Due.{partOf};
 
 // A place past the end of every list.
 pub const LOST: usize = 18446744073709551615;
@@ -166,15 +168,18 @@ pub fn record_at(list: &[u8], at: usize) -> Record
 }
 
 // The bytes of a part, and none where it does not lie in the list.
-pub fn bytes_of(list: &[u8], part: Part) -> &[u8] {
+pub fn bytes_of(list: &[u8], part: Part) -> &[u8]
+    ensures { λ r. ⌜ now r ≡ partOf (now (list .entry)) (part .from) (part .to) ⌝ }
+{
     let from = part.from;
     let to = part.to;
-    if from <= to {
-        if to <= list.len() {
-            return &list[from..to];
-        }
+    if to < from {
+        return &list[..0];
     }
-    &list[..0]
+    if list.len() < to {
+        return &list[..0];
+    }
+    &list[from..to]
 }
 
 // The place of the first call, lost where the list does not begin with `OHGLIST1`.

@@ -6,8 +6,9 @@ mod list;
 
 ghost use Prim.Native.Nat.{_+_, _<_, _≤_};
 ghost use mathlib.Core.Path.{_≡_};
-ghost use mathlib.Core.Bool.{cond};
+ghost use mathlib.Core.Bool.{true, cond};
 ghost use lib.ListN.{length};
+ghost use Rattle.replay.specs.Due.{filled, Due};
 use calls::returns_due;
 use libc::STDOUT_FILENO;
 use list::LOST;
@@ -62,7 +63,9 @@ fn tell(tally: Tally) {
     io::write_all(STDOUT_FILENO, b" differ\n");
 }
 
-fn fill(buffer: &mut [u8]) {
+fn fill(buffer: &mut [u8])
+    ensures { λ _. ⌜ now (buffer .exit) ≡ filled (length (now (buffer .entry))) ⌝ }
+{
     let mut i = 0;
     while i < buffer.len() {
         buffer[i] = FILL;
@@ -73,15 +76,17 @@ fn fill(buffer: &mut [u8]) {
 // Whether a call returns what is due and leaves what is due in its answer buffers, which are of the recorded lengths.
 fn answers_due(
     list: &[u8],
-    record: Record,
+    recorded: Record,
     out: &mut [u8],
     map: &mut [u8],
     room: &mut [u8],
-) -> bool {
-    let answers = record.answers;
+) -> bool
+    ensures { λ r. ⌜ (r ≡ true → Due (now (list .entry)) recorded) ⌝ }
+{
+    let answers = recorded.answers;
     fill(out);
     fill(map);
-    if !returns_due(list, record, out, map, room) {
+    if !returns_due(list, recorded, out, map, room) {
         return false;
     }
     if !check::same(out, bytes_of(list, answers.one)) {
@@ -99,14 +104,16 @@ fn front(buffer: &mut [u8], n: usize) -> &mut [u8] {
 }
 
 // Whether a recorded call agrees. A record that is broken does not, nor one that asks for longer buffers than these.
-fn agrees(list: &[u8], record: Record, out: &mut [u8], map: &mut [u8], room: &mut [u8]) -> bool {
-    if record.next == LOST {
+fn agrees(list: &[u8], recorded: Record, out: &mut [u8], map: &mut [u8], room: &mut [u8]) -> bool
+    ensures { λ r. ⌜ (r ≡ true → Due (now (list .entry)) recorded) ⌝ }
+{
+    if recorded.next == LOST {
         return false;
     }
-    let answers = record.answers;
+    let answers = recorded.answers;
     let n = bytes_of(list, answers.one).len();
     let m = bytes_of(list, answers.two).len();
-    answers_due(list, record, front(out, n), front(map, m), room)
+    answers_due(list, recorded, front(out, n), front(map, m), room)
 }
 
 // Replays the list to its end, or to where it is broken: what is broken counts as one call that differs.
