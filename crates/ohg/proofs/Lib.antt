@@ -3,3 +3,4 @@ pub mod Packing
 pub mod Unpacked
 pub mod Caller
 pub mod Explicit
+pub mod Rewritten
