@@ -1,19 +1,28 @@
--- Which refusals the choice and the no-loop check can give, whatever they are given.
+-- Which refusals the choice, with kept nodes and without, and the no-loop check can give, whatever they are given.
 -- Assumes nothing.
 use mathlib.Core.List.{List}
 use mathlib.Core.Path.{refl}
 use Prim.Native.Nat.{ℕ}
 use Rattle.graph.proofs.Refuses.{RefusedBy, answer-by, step-by}
-use Rattle.graph.proofs.RefusedBy.{reads-by, unpaired-by, fit-by, work-by}
-use Rattle.choice.specs.Calls.{cycleBroken, cycleBreakingNodesCall, loopFree, noLoopCall}
-use Rattle.choice.specs.RefusedBy.{cycleBreakingNodesRefusals, noLoopRefusals}
+use Rattle.graph.proofs.RefusedBy.{reads-by, id-list-by, unpaired-by, fit-by, work-by}
+use Rattle.choice.specs.Calls.{listing, cycleBroken, cycleBrokenKeeping, cycleBreakingNodesCall, cycleBreakingNodesKeepingCall, loopFree, noLoopCall}
+use Rattle.choice.specs.RefusedBy.{cycleBreakingNodesRefusals, cycleBreakingNodesKeepingRefusals, noLoopRefusals}
+use Rattle.choice.proofs.Kept.{sixteen-by}
 
 pub cycle-breaking-nodes-by : (b : List ℕ) (room workRoom : ℕ) → RefusedBy cycleBreakingNodesRefusals (cycleBreakingNodesCall b room workRoom)
-unfolding cycleBroken
+unfolding listing cycleBroken
 cycle-breaking-nodes-by b room workRoom =
     let ns : List ℕ = cycleBreakingNodesRefusals in
     work-by ns refl _ workRoom _
     (step-by _ _ (reads-by ns refl b) (λ s. step-by _ _ (unpaired-by ns refl (s .graph)) (λ g. step-by _ _ (fit-by ns refl room _) (λ list. answer-by _))))
+
+pub cycle-breaking-nodes-keeping-by : (b kept : List ℕ) (room workRoom : ℕ)
+    → RefusedBy cycleBreakingNodesKeepingRefusals (cycleBreakingNodesKeepingCall b kept room workRoom)
+unfolding listing cycleBrokenKeeping
+cycle-breaking-nodes-keeping-by b kept room workRoom =
+    let ns : List ℕ = cycleBreakingNodesKeepingRefusals in
+    work-by ns refl _ workRoom _
+    (step-by _ _ (reads-by ns refl b) (λ s. step-by _ _ (id-list-by ns refl (s .format) _ kept) (λ kept. step-by _ _ (unpaired-by ns refl (s .graph)) (λ g. step-by _ _ (sixteen-by ns refl kept g) (λ c. step-by _ _ (fit-by ns refl room _) (λ list. answer-by _))))))
 
 pub no-loop-by : (b : List ℕ) (workRoom : ℕ) → RefusedBy noLoopRefusals (noLoopCall b workRoom)
 unfolding loopFree

@@ -4,10 +4,10 @@ use mathlib.Core.Path.{_≡_}
 use mathlib.Core.Bool.{Bool, _&&_, cond}
 use mathlib.Core.List.{List, [], _∷_}
 use mathlib.Core.Logic.{_⊎_, _↔_}
-use Prim.Native.Nat.{ℕ, _+_}
-use lib.Dec.{eqb}
-use Rattle.choice.specs.Arcs.{Arc, In, howMany, Set, size}
-use Rattle.choice.specs.Choice.{Chosen, stages, choice}
+use Prim.Native.Nat.{ℕ, suc, _+_}
+use lib.Dec.{T, eqb}
+use Rattle.choice.specs.Arcs.{Arc, In, howMany, Set, has, vertices, without, Loose}
+use Rattle.choice.specs.Choice.{Chooses}
 
 -- the far ends of the arcs whose near end is v, in the arcs' order
 unfoldable pub endsAt : (Arc → ℕ) → (Arc → ℕ) → ℕ → List Arc → List ℕ
@@ -26,11 +26,13 @@ incoming arcs v = endsAt (λ a. a .to) (λ a. a .from) v arcs
 unfoldable pub between : List Arc → ℕ → ℕ → ℕ
 between arcs u v = howMany (λ a. eqb (a .to) v && eqb (a .from) u) arcs
 
--- what the stages give from S on
-unfoldable pub left : List Arc → (ℕ → Bool) → Set → Chosen
-left arcs may S = stages (size S) arcs may S
+-- what an engine has told so far, S being left: whatever run goes on from S is a run of the whole, with what was `picked`, in any order, and counted as
+-- `free`. Whether there is such a run need not be known.
+pub record Sofar (arcs : List Arc) (may : ℕ → Bool) (n : ℕ) (S : Set) (picked : List ℕ) (free : ℕ) : Type 0 where
+  pub onward : (ids : List ℕ) (more : ℕ) → Chooses arcs may S ids more
+      → (all : List ℕ) × Chooses arcs may (vertices n) all (free + more) × ((x : ℕ) → In x all ↔ (In x picked ⊎ In x ids))
 
--- the answer so far: `picked` in any order, `free` counted
-pub record Told (arcs : List Arc) (may : ℕ → Bool) (n : ℕ) (S : Set) (picked : List ℕ) (free : ℕ) : Type 0 where
-  pub ids-told : (x : ℕ) → In x (choice arcs may n .ids) ↔ (In x picked ⊎ In x (left arcs may S .ids))
-  pub free-told : choice arcs may n .free ≡ free + left arcs may S .free
+-- U is reached from S by k free removals, one after the other, as a loop makes them
+pub data Frees (arcs : List Arc) (S : Set) : Set → ℕ → Type 0 where
+  untouched : Frees arcs S S 0
+  freed : {U : Set} {k : ℕ} (v : ℕ) → Frees arcs S U k → T (has U v) → Loose arcs U v → Frees arcs S (without v U) (suc k)

@@ -4,16 +4,18 @@ use mathlib.Core.Path.{_≡_}
 use mathlib.Core.Bool.{Bool}
 use mathlib.Core.List.{List, []}
 use mathlib.Core.Logic.{_↔_}
-use Prim.Native.Nat.{ℕ, zero, _≤_, _<_}
+use Prim.Native.Nat.{ℕ, zero, _+_, _≤_, _<_}
 use lib.Dec.{T}
 use lib.ListN.{length}
 use Rattle.le.specs.Le.{Below, numbers, row}
 use Rattle.graph.specs.Graph.{Graph}
 use Rattle.graph.specs.Answer.{answered, Result}
 use Rattle.graph.specs.Versions.{StoredGraph, read}
+use Rattle.graph.specs.Calls.{idList}
 use Rattle.choice.specs.Arcs.{Arc, In, Leads, Set, has, Stable, Cycle, NoCycle}
-use Rattle.choice.specs.Choice.{Ascends}
-use Rattle.choice.specs.Drawing.{arcs, chosen}
+use Rattle.choice.specs.Choice.{Chosen, Ascends}
+use Rattle.choice.specs.Drawing.{arcs, vertexCount, chosen}
+use Rattle.choice.specs.Keeping.{chosenKeeping}
 
 -- all arcs join vertices below n
 abbrev pub Bounded : List Arc → ℕ → Type 0
@@ -40,3 +42,27 @@ pub record CutOf (b : List ℕ) (room : ℕ) (s : StoredGraph) (c : Result) : Ty
   pub fits : length (c .bytes) ≤ room
   pub back : numbers (s .format .width) (c .a) (c .bytes) ≡ chosen (s .graph) .ids
   pub breaks : Breaks (s .graph) (numbers (s .format .width) (c .a) (c .bytes))
+
+-- what is promised of an answered choice that keeps nodes: the same, no kept node is in it, and every vertex is either chosen or removed freely
+pub record Spares (kept : List ℕ) (g : Graph) (c : Chosen) : Type 0 where
+  pub breaks : Breaks g (c .ids)
+  pub spared : (v : ℕ) → In v (c .ids) → In v kept → ⊥
+  pub all-counted : length (c .ids) + c .free ≡ vertexCount g
+
+-- a stored graph and the list of a call are good: 1 to 8 are past
+pub record Admitted (b list : List ℕ) (s : StoredGraph) (kept : List ℕ) : Type 0 where
+  pub stored : read b ≡ answered s
+  pub listed : idList (s .format) (length (s .graph .labels)) list ≡ answered kept
+  pub pairless : length (s .graph .pairs) ≡ zero
+
+-- the answer is the choice of the stored graph among the nodes that are not kept, its bytes are read back as the chosen ids, and all promises hold of it
+pub record KeepingOf (b list : List ℕ) (room : ℕ) (s : StoredGraph) (kept : List ℕ) (c : Result) : Type 0 where
+  pub admitted : Admitted b list s kept
+  pub picked : Chosen
+  pub is : chosenKeeping kept (s .graph) ≡ answered picked
+  pub written : c .bytes ≡ row (s .format .width) (picked .ids)
+  pub count : c .a ≡ length (picked .ids)
+  pub free : c .b ≡ picked .free
+  pub fits : length (c .bytes) ≤ room
+  pub back : numbers (s .format .width) (c .a) (c .bytes) ≡ picked .ids
+  pub spares : Spares kept (s .graph) picked

@@ -1,10 +1,13 @@
--- Which refusals the choice and the no-loop check can give, as docs/INTERFACE.md has them.
+-- Which refusals the choice, with kept nodes and without, and the no-loop check can give, as docs/INTERFACE.md has them.
 -- Assumes nothing.
 use mathlib.Core.List.{List, [], _∷_}
 use Prim.Native.Nat.{ℕ}
 
 abbrev pub cycleBreakingNodesRefusals : List ℕ
 cycleBreakingNodesRefusals = 1 ∷ 2 ∷ 3 ∷ 4 ∷ 5 ∷ 6 ∷ 13 ∷ 8 ∷ 10 ∷ []
+
+abbrev pub cycleBreakingNodesKeepingRefusals : List ℕ
+cycleBreakingNodesKeepingRefusals = 1 ∷ 2 ∷ 3 ∷ 4 ∷ 5 ∷ 6 ∷ 13 ∷ 7 ∷ 8 ∷ 16 ∷ 10 ∷ []
 
 abbrev pub noLoopRefusals : List ℕ
 noLoopRefusals = 1 ∷ 2 ∷ 3 ∷ 4 ∷ 5 ∷ 6 ∷ 13 ∷ 8 ∷ 10 ∷ []
