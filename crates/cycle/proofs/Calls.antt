@@ -1,71 +1,86 @@
 -- What the choice comes to once the engine has flagged its nodes: the list does not fit, or it is written.
 -- Assumes nothing.
 use mathlib.Core.List.{List, []}
-use mathlib.Core.Path.{_≡_, sym, ap, _∙_}
-use Prim.Native.Nat.{ℕ, _*_, _≤_, _<_}
+use mathlib.Core.Path.{_≡_, refl, sym, ap, _∙_}
+use Prim.Native.Nat.{ℕ, _+_, _*_, _≤_, _<_}
 use native.Mathlib.Omega.{arith}
 use lib.ListN.{length}
 use lib.Seq.{sets}
 use borrow.Author.Tests.{le-leb, lt-leb}
-use Rattle.choice.specs.Drawing.{chosen}
-use Rattle.cycle.specs.Begin.{ChosenIn, flaggedBelow}
-use Rattle.form.specs.Form.{Gives}
-use Rattle.form.specs.Stored.{storedOf, graphOf, formatOf, Stored}
+use Rattle.choice.specs.Calls.{listing}
+use Rattle.choice.specs.Choice.{Chosen}
+use Rattle.choice.specs.Keeping.{chosenKeeping}
+use Rattle.choice.specs.Promises.{Spares}
+use Rattle.choice.proofs.Fits.{below-in}
+use Rattle.choice.proofs.Kept.{answered-spares}
+use Rattle.cycle.specs.Begin.{ChosenIn, chosenAs, flaggedBelow}
+use Rattle.cycle.specs.Stage.{freeOf}
+use Rattle.form.specs.Form.{meantBy, Gives}
+use Rattle.form.specs.declared.Refusal as form
+use Rattle.form.specs.declared.Step.the-variants as step
+use Rattle.form.specs.declared.Step.{Step}
 use Rattle.form.specs.declared.Outcome.the-variants as call
-use Rattle.form.specs.declared.Sizes.{Sizes}
-use Rattle.graph.specs.Answer.{Answer, refused, answered, refusal, Result, _else_, _>>=_, _>>_}
+use Rattle.graph.specs.Answer.{Answer, refused, answered, Refusal, _else_, _>>=_, _>>_}
 use Rattle.graph.specs.Calls.{fit}
-use Rattle.graph.specs.Graph.{Graph}
-use Rattle.graph.specs.Versions as versions
+use Rattle.graph.specs.Graph.{Graph, Format}
 use Rattle.le.specs.Le.{row}
-use Rattle.tables.specs.Tables.{mostVertices}
 use Rattle.le.specs.Rows.{rowAt, placeIn, puts}
-use Rattle.choice.proofs.Graphs.{chosen-and-free-are-all}
-use Rattle.form.proofs.Answers.{gives-done}
+use Rattle.form.proofs.Answers.{number-refused, number-answered, gives-refused, gives-done}
+use Rattle.graph.proofs.Steps.{never, same-answer, same-refusal, stops, goes}
 use Rattle.graph.proofs.Places.{sets-lay}
-use Rattle.incidence.proofs.Facts.{facts}
 use Rattle.le.proofs.Numbers.{length-row}
-use Rattle.cycle.proofs.Flags.{flagged-chosen}
+use Rattle.cycle.proofs.Begin.{Drawn}
+use Rattle.cycle.proofs.Flags.{flagged-are}
 
--- the call once its graph was read and found to have no pairs
-abbrev pub listing : ℕ → versions.StoredGraph → Graph → Answer Result
-listing room s g = fit room (row (s .format .width) (chosen g .ids)) >>= λ list.
-    answered (record { a = length (chosen g .ids); b = chosen g .free; bytes = list; map = [] })
+-- a list of these ids, as many as `count`, in this width
+module _ (f : Format) (w : ℕ) (width : f .width ≡ w) (ids : List ℕ) (free count : ℕ) (many : length ids ≡ count) where
+  long : length (row (f .width) ids) ≡ count * w
+  long = length-row (f .width) ids ∙ (λ i. many i * width i)
 
-module _ (b : List ℕ) (z : Sizes) (s : Stored b z) (X : List ℕ) (ids free : ℕ) (c : ChosenIn (graphOf b) X (z .nodes) ids free) where
-  flagged : flaggedBelow X (z .nodes) ≡ chosen (graphOf b) .ids
-  flagged = flagged-chosen b z s X ids free c
+  pub listing-10 : (old : List ℕ) → length old < count * w → Gives (listing f (length old) (chosenAs ids free)) (call.Refused (record { no = 10; place = 0 })) old old
+  unfolding listing fit _else_ _>>_ _>>=_
+  listing-10 old h =
+      let l : length old < length (row (f .width) ids) = omega (arith, long) in
+      gives-refused (record { no = 10; place = 0 }) old (rw (lt-leb (length (row (f .width) ids)) (length old) l))
 
-  pub flagged-count : length (flaggedBelow X (z .nodes)) ≡ ids
-  flagged-count = ap length flagged ∙ sym (c .count)
-
-  pub ids-few : ids ≤ mostVertices
-  ids-few =
-      let f = facts s in
-      let n = ap (λ (y : Sizes). y .nodes) (s .sizes) in
-      let e = ap (λ (y : Sizes). y .edges) (s .sizes) in
-      omega (arith, f .few, c .count, chosen-and-free-are-all (graphOf b) (s .formed .proper))
-
-  width : z .width ≡ formatOf b .width
-  width = ap (λ (y : Sizes). y .width) (s .sizes)
-
-  long : length (row (formatOf b .width) (chosen (graphOf b) .ids)) ≡ ids * z .width
-  long = length-row (formatOf b .width) (chosen (graphOf b) .ids) ∙ (λ i. sym (c .count) i * sym width i)
-
-  pub listing-10 : (room : ℕ) → room < ids * z .width → listing room (storedOf b) (graphOf b) ≡ refused (refusal 10)
-  unfolding fit _else_ _>>_ _>>=_
-  listing-10 room h =
-      let l : room < length (row (formatOf b .width) (chosen (graphOf b) .ids)) = omega (arith, long) in
-      rw (lt-leb (length (row (formatOf b .width) (chosen (graphOf b) .ids))) room l)
-
-  pub listing-0 : (a : Answer Result) (old new : List ℕ) → a ≡ listing (length old) (storedOf b) (graphOf b) → ids * z .width ≤ length old
-      → new ≡ puts old (rowAt 0 (z .width)) 0 (flaggedBelow X (z .nodes)) → Gives a (call.Done ids free) old new
-  unfolding puts fit _else_ _>>_ _>>=_
-  listing-0 a old new is h e =
-      let w = formatOf b .width in
-      let list = row w (chosen (graphOf b) .ids) in
+  pub listing-0 : (old new : List ℕ) → count * w ≤ length old → new ≡ puts old (rowAt 0 w) 0 ids → Gives (listing f (length old) (chosenAs ids free)) (call.Done count free) old new
+  unfolding listing puts fit _else_ _>>_ _>>=_
+  listing-0 old new h e =
+      let list = row (f .width) ids in
       let l : length list ≤ length old = omega (arith, long) in
-      let done : a ≡ answered (record { a = length (chosen (graphOf b) .ids); b = chosen (graphOf b) .free; bytes = list; map = [] }) =
-      is ∙ rw (le-leb (length list) (length old) l) in
-      let front : placeIn (rowAt 0 (z .width)) 0 ≡ 0 = omega arith in
-      rw (c .count, c .is-free) (gives-done _ old new done (e ∙ (λ i. sets old (front i) (row (width i) (flagged i))) ∙ sets-lay list old l))
+      let front : placeIn (rowAt 0 w) 0 ≡ 0 = omega arith in
+      rw (sym many)
+      (gives-done (record { a = length ids; b = free; bytes = list; map = [] }) old new (rw (le-leb (length list) (length old) l))
+      (e ∙ (λ i. sets old (front i) (row (sym width i) ids)) ∙ sets-lay list old l))
+
+-- the engine's answer in the call
+free-refused : (a : Answer Chosen) (r : Refusal) → freeOf a ≡ refused r → a ≡ refused r
+free-refused (refused q) r e = ap refused (same-refusal e)
+free-refused (answered c) r e = absurd (never (sym e))
+
+free-answered : (a : Answer Chosen) (free : ℕ) → freeOf a ≡ answered free → (c : Chosen) × (a ≡ answered c) × (c .free ≡ free)
+free-answered (refused q) free e = absurd (never e)
+free-answered (answered c) free e = (c, refl, same-answer e)
+
+module _ (kept : List ℕ) (g : Graph) (nodes n : ℕ) (d : Drawn g nodes n) (X : List ℕ) (q : Step) (is : ChosenIn kept g X nodes q) where
+  pub keeping-refused : (x : form.Refusal) → q ≡ step.Refused x → (f : Format) (room : ℕ) → (chosenKeeping kept g >>= listing f room) ≡ refused (meantBy x)
+  keeping-refused x e f room = stops (listing f room) (free-refused (chosenKeeping kept g) (meantBy x) (number-refused (freeOf (chosenKeeping kept g)) q (is .is) x e))
+
+  module _ (free : ℕ) (e : q ≡ step.Number free) where
+    answer : (c : Chosen) × (chosenKeeping kept g ≡ answered c) × (c .free ≡ free)
+    answer = free-answered (chosenKeeping kept g) free (number-answered (freeOf (chosenKeeping kept g)) q (is .is) free e)
+
+    spares : Spares kept g (answer .0)
+    spares = answered-spares g (d .proper) kept (answer .0) (answer .1)
+
+    -- the flags are its ids
+    ids : flaggedBelow X nodes ≡ answer .0 .ids
+    ids =
+        flagged-are X nodes (answer .0 .ids) (spares .breaks .ascends) (λ x i. omega (arith, d .nodes-is, below-in (length (g .labels)) (answer .0 .ids) (spares .breaks .nodes) x i))
+        (is .flags (answer .0) (answer .1))
+
+    pub keeping-counted : length (flaggedBelow X nodes) + free ≡ n
+    keeping-counted = (λ i. length (ids i) + sym (answer .2) i) ∙ spares .all-counted ∙ sym (d .n-is)
+
+    pub keeping-listed : (f : Format) (room : ℕ) → (chosenKeeping kept g >>= listing f room) ≡ listing f room (chosenAs (flaggedBelow X nodes) free)
+    keeping-listed f room = goes (listing f room) (answer .1) ∙ (λ i. listing f room (chosenAs (sym ids i) (answer .2 i)))

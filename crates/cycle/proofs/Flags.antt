@@ -13,15 +13,12 @@ use lib.ListN.{length, getD, length-append}
 use borrow.Author.Tests.{eq-eqb, ne-eqb}
 use Rattle.choice.specs.Arcs.{In}
 use Rattle.choice.specs.Choice.{Above, Ascends}
-use Rattle.choice.specs.Drawing.{chosen}
-use Rattle.cycle.specs.Begin.{ChosenIn, shown, flaggedBelow}
-use Rattle.form.specs.Stored.{graphOf, Stored}
-use Rattle.form.specs.declared.Sizes.{Sizes}
+use Rattle.cycle.specs.Begin.{shown, flaggedBelow}
+use Rattle.cycle.specs.Stage.{Flagged}
 use Rattle.le.specs.Rows.{puts}
 use Rattle.le.specs.declared.Row.{Row}
 use Rattle.tables.specs.Tables.{pickedAt}
 use Rattle.choice.proofs.Ascending.{ascends-ext}
-use Rattle.choice.proofs.Graphs.{chosen-ascends, chosen-are-nodes}
 use Rattle.le.proofs.Rows.{puts-append}
 
 pub shown-no : (W : List ℕ) (v : ℕ) → (getD W (pickedAt + v) 0 ≡ 1 → ⊥) → shown W v ≡ []
@@ -78,13 +75,10 @@ flagged-ascends W (suc k) = go (flagged-ascends W k) (ℕ-discrete (getD W (pick
     go r (no e) = subst Ascends (sym (ap (λ (l : List ℕ). flaggedBelow W k ++ l) (shown-no W k e) ∙ append-nil (flaggedBelow W k))) r
     go r (yes f) = subst (λ (l : List ℕ). Ascends (flaggedBelow W k ++ l)) (sym (shown-yes W k f)) (ascends-snoc (flaggedBelow W k) k r (λ x i. flagged-in W k x i .0))
 
--- the flagged nodes are the chosen ids
-pub flagged-chosen : (b : List ℕ) (z : Sizes) → Stored b z → (X : List ℕ) (ids free : ℕ) → ChosenIn (graphOf b) X (z .nodes) ids free → flaggedBelow X (z .nodes) ≡ chosen (graphOf b) .ids
-flagged-chosen b z s X ids free c =
-    let n = ap (λ (y : Sizes). y .nodes) (s .sizes) in
-    ascends-ext (flaggedBelow X (z .nodes)) (chosen (graphOf b) .ids) (flagged-ascends X (z .nodes)) (chosen-ascends (graphOf b) (s .formed .proper))
-    (λ x i. let r = flagged-in X (z .nodes) x i in c .flags x (r .0) .1 (r .1))
-    (λ x i. let l : x < z .nodes = omega (arith, chosen-are-nodes (graphOf b) (s .formed .proper) x i) in in-flagged X (z .nodes) x l (c .flags x l .0 i))
+-- flags that are those of an ascending list of nodes give that list
+pub flagged-are : (W : List ℕ) (nodes : ℕ) (ids : List ℕ) → Ascends ids → ((x : ℕ) → In x ids → x < nodes) → Flagged nodes W ids → flaggedBelow W nodes ≡ ids
+flagged-are W nodes ids up low flags =
+    ascends-ext (flaggedBelow W nodes) ids (flagged-ascends W nodes) up (λ x i. let r = flagged-in W nodes x i in flags x (r .0) .1 (r .1)) (λ x i. let l = low x i in in-flagged W nodes x l (flags x l .0 i))
 
 -- ---- the row
 

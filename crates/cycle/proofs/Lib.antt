@@ -1,3 +1,5 @@
+pub mod May
+pub mod Marks
 pub mod Turning
 pub mod Best
 pub mod Staging

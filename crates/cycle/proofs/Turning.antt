@@ -6,7 +6,6 @@ use mathlib.Core.Logic.{_≢_, inl, _⊎_, inr}
 use Prim.Native.Nat.{ℕ, _+_, _-_, _*_, _≤_, _<_}
 use native.Mathlib.Nat.{eq-or-lt-of-le}
 use native.Mathlib.Omega.{arith}
-use lib.Dec.{ltb→lt}
 use lib.ListN.{length, getD, take}
 use lib.Seq.{ext-getD, getD-take, length-take-le}
 use Rattle.tables.specs.Tables.{mostVertices, queueAt}
@@ -16,13 +15,14 @@ use Rattle.queue.specs.Places.{keyAt, keysIn, Replaced}
 use Rattle.queue.proofs.Stored.{keys-length, keys-at}
 use Rattle.queue.proofs.Nodes.{top-allowed, now-not-above, queue-replaced}
 use Rattle.cycle.specs.Next.{may, degreesIn, Agreed}
+use Rattle.cycle.proofs.May.{may-low}
 
 -- the sum of all keys
 abbrev pub sum : List ℕ → ℕ
 sum K = total (λ k. k) K
 
 pub record Turning (W X : List ℕ) (nodes n m top id present : ℕ) : Type 0 where
-  pub queued : Queued (may nodes) (degreesIn X n) (keysIn X queueAt m)
+  pub queued : Queued (may W nodes) (degreesIn X n) (keysIn X queueAt m)
   pub frame : Outside queueAt (queueAt + 2 * m) W X
   pub is-top : top ≡ getD (keysIn X queueAt m) 0 0
   pub is-id : id ≡ idOf top
@@ -38,7 +38,7 @@ module _ (W : List ℕ) (nodes n m : ℕ) (less : nodes ≤ n) (few : n ≤ most
       long : (Z : List ℕ) → length Z ≡ length W → length (take (2 * n) Z) ≡ 2 * n
       long Z e = length-take-le (2 * n) Z (omega arith)
 
-  module _ (X : List ℕ) (l : length X ≡ length W) (q : Queued (may nodes) (degreesIn X n) (keysIn X queueAt m)) where
+  module _ (X : List ℕ) (l : length X ≡ length W) (q : Queued (may W nodes) (degreesIn X n) (keysIn X queueAt m)) where
     some-keys : 0 < length (keysIn X queueAt m)
     some-keys = omega (arith, keys-length X queueAt m)
 
@@ -47,7 +47,7 @@ module _ (W : List ℕ) (nodes n m : ℕ) (less : nodes ≤ n) (few : n ≤ most
 
     -- the node of the top, and its degrees
     pub top-node : (top id : ℕ) → top ≡ getD (keysIn X queueAt m) 0 0 → id ≡ idOf top → id < nodes
-    top-node top id e f = subst (λ (v : ℕ). v < nodes) (sym (f ∙ ap idOf e)) (ltb→lt (idOf (getD (keysIn X queueAt m) 0 0)) nodes (top-allowed (may nodes) (degreesIn X n) (keysIn X queueAt m) q some-keys))
+    top-node top id e f = subst (λ (v : ℕ). v < nodes) (sym (f ∙ ap idOf e)) (may-low W nodes (idOf (getD (keysIn X queueAt m) 0 0)) (top-allowed (may W nodes) (degreesIn X n) (keysIn X queueAt m) q some-keys))
 
     pub degree-small : (y : ℕ) → y < 2 * n → getD X y 0 < radix
     degree-small y k = subst (λ (v : ℕ). v < radix) (getD-take (2 * n) X y 0 k) (q .small y)
@@ -61,7 +61,7 @@ module _ (W : List ℕ) (nodes n m : ℕ) (less : nodes ≤ n) (few : n ≤ most
     stale f = go (eq-or-lt-of-le under)
       where
         above : keyNow (degreesIn X n) (idOf (getD (keysIn X queueAt m) 0 0)) ≤ getD (keysIn X queueAt m) 0 0
-        above = now-not-above (may nodes) (degreesIn X n) (keysIn X queueAt m) (t .queued) (some-keys X (t .frame .long) (t .queued))
+        above = now-not-above (may W nodes) (degreesIn X n) (keysIn X queueAt m) (t .queued) (some-keys X (t .frame .long) (t .queued))
 
         same : present ≡ keyNow (degreesIn X n) (idOf (getD (keysIn X queueAt m) 0 0))
         same = t .is-present ∙ ap (keyNow (degreesIn X n)) (t .is-id ∙ ap idOf (t .is-top))
@@ -80,10 +80,10 @@ module _ (W : List ℕ) (nodes n m : ℕ) (less : nodes ≤ n) (few : n ≤ most
     heap-here = subst (Heap (keysIn X queueAt m)) (keys-length X queueAt m) (t .queued .heap)
 
     module _ (Y : List ℕ) (r : Replaced X Y queueAt m present) where
-      pub turn-queued : Queued (may nodes) (degreesIn Y n) (keysIn Y queueAt m)
+      pub turn-queued : Queued (may W nodes) (degreesIn Y n) (keysIn Y queueAt m)
       turn-queued =
-          subst (λ (d : List ℕ). Queued (may nodes) d (keysIn Y queueAt m)) (sym (degrees-same X Y (t .frame .long) (r .frame)))
-          (queue-replaced (may nodes) (degreesIn X n) (keysIn X queueAt m) (t .queued) (some-keys X (t .frame .long) (t .queued)) (keysIn Y queueAt m)
+          subst (λ (d : List ℕ). Queued (may W nodes) d (keysIn Y queueAt m)) (sym (degrees-same X Y (t .frame .long) (r .frame)))
+          (queue-replaced (may W nodes) (degreesIn X n) (keysIn X queueAt m) (t .queued) (some-keys X (t .frame .long) (t .queued)) (keysIn Y queueAt m)
           (subst (Sunk (keysIn X queueAt m) (keysIn Y queueAt m)) (t .is-present ∙ ap (keyNow (degreesIn X n)) (t .is-id ∙ ap idOf (t .is-top))) (r .sunk)))
 
       pub turn-less : present ≢ top → sum (keysIn Y queueAt m) < sum (keysIn X queueAt m)

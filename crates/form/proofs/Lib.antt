@@ -3,3 +3,4 @@ pub mod Answers
 pub mod Stored
 pub mod Listed
 pub mod Pairless
+pub mod Spared

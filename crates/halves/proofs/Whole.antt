@@ -5,16 +5,20 @@ use mathlib.Core.Bool.{Bool, true, false, cond}
 use mathlib.Core.List.{List, [], _∷_, _++_}
 use mathlib.Core.Logic.{_≢_, _↔_}
 use Prim.Native.Nat.{ℕ, zero, suc, _+_, _-_, _*_, _≤_, _<_}
+use native.Mathlib.Nat.{zero-add}
 use native.Mathlib.Omega.{arith}
 use lib.Dec.{T, ltb}
 use lib.ListN.{length, getD, drop, length-drop}
 use lib.Seq.{drop-cons, drop-length}
 use borrow.Author.Tests.{ltb-true, ltb-false}
 use Rattle.choice.specs.Arcs.{Arc, In, Set, has, vertices, without, size, Stable, Loose}
-use Rattle.choice.specs.Choice.{choice, Best}
+use Rattle.choice.specs.Choice.{Chosen, Best, Ascends}
+use Rattle.choice.specs.Degrees.{Sofar, Frees, untouched, freed}
+use Rattle.choice.specs.Keeping.{keepingChoice}
+use Rattle.choice.specs.Promises.{Bounded}
 use Rattle.choice.proofs.Sets.{has-lt, size-without, size-empty, size-some, size-vertices}
-use Rattle.choice.specs.Promises.{Offers}
-use Rattle.choice.proofs.Told.{told-start, told-loose, told-best, told-done}
+use Rattle.choice.proofs.Sofar.{sofar-start, sofar-best, sofar-done, sofar-frees, frees-size}
+use Rattle.graph.specs.Answer.{answered}
 use Rattle.halves.specs.Halves.{vertex, live, Listed, Halves, lowerAll, peelFrom, drop-both, pick, Between, Ready, Going, Seeding}
 use Rattle.halves.proofs.Lists.{pos-of}
 use Rattle.halves.proofs.Lowering.{lower-all-ready}
@@ -66,24 +70,26 @@ module _ (arcs : List Arc) (may : ℕ → Bool) (n : ℕ) (S : Set) (h : Halves)
 
 -- ---- the run
 
-module _ (arcs : List Arc) (may : ℕ → Bool) (n : ℕ) (lists : ℕ → List ℕ) (listed : Listed arcs n lists) (offers : Offers arcs may) where
-  -- all vertices are seeded
-  pub going-start : (d q : List ℕ) → Seeding arcs n n d q → Going arcs may n (vertices n) (record { degrees = d; waiting = q }) [] 0
-  going-start d q b = record {
-    ready = record { started = omega arith; state = seeding-done arcs n d q b };
-    told = told-start arcs may n offers;
-    spent = omega (arith, size-vertices n);
-  }
+-- the first of some free removals comes before the others
+first-freed : (arcs : List Arc) {S U : Set} {k : ℕ} (v : ℕ) → T (has S v) → Loose arcs S v → Frees arcs (without v S) U k → Frees arcs S U (suc k)
+first-freed arcs v t l untouched = freed v untouched t l
+first-freed arcs v t l (freed u f m n) = freed u (first-freed arcs v t l f) m n
 
+-- what waits from place `first` on has been taken from S, by free removals alone, and nothing waits any more
+pub record Peeled (arcs : List Arc) (n : ℕ) (S : Set) (first : ℕ) (h : Halves) : Type 0 where
+  pub rest : Set
+  pub many : ℕ
+  pub frees : Frees arcs S rest many
+  pub number : first + many ≡ length (h .waiting)
+  pub ready : Ready arcs n rest h (length (h .waiting)) []
+
+module _ (arcs : List Arc) (n : ℕ) (lists : ℕ → List ℕ) (listed : Listed arcs n lists) where
   -- one vertex that waits is removed
-  pub going-next : (S : Set) (h : Halves) (picked : List ℕ) (first : ℕ) → first < length (h .waiting) → Going arcs may n S h picked first
-      → Going arcs may n (without (vertex (getD (h .waiting) first 0)) S) (lowerAll (lists (getD (h .waiting) first 0)) h) picked (suc first)
-  going-next S h picked first more g = record {
-    ready = lower-all-ready arcs n R (lists y) [] h (suc first) (λ t m. listed .low y t (next-low arcs n lists listed S h first more (g .ready)) m)
-        (subst (Ready arcs n R h (suc first)) (sym (append-nil (lists y))) (next-left arcs n lists listed S h first more (g .ready)));
-    told = told-loose arcs may n offers S picked first (g .told) (vertex y) inside (next-loose arcs n lists listed S h first more (g .ready));
-    spent = omega (arith, g .spent, size-without (vertex y) S inside);
-  }
+  pub ready-next : (S : Set) (h : Halves) (first : ℕ) → first < length (h .waiting) → Ready arcs n S h first []
+      → Ready arcs n (without (vertex (getD (h .waiting) first 0)) S) (lowerAll (lists (getD (h .waiting) first 0)) h) (suc first) []
+  ready-next S h first more r =
+      lower-all-ready arcs n R (lists y) [] h (suc first) (λ t m. listed .low y t (next-low arcs n lists listed S h first more r) m)
+      (subst (Ready arcs n R h (suc first)) (sym (append-nil (lists y))) (next-left arcs n lists listed S h first more r))
     where
       y : ℕ
       y = getD (h .waiting) first 0
@@ -91,29 +97,75 @@ module _ (arcs : List Arc) (may : ℕ → Bool) (n : ℕ) (lists : ℕ → List 
       R : Set
       R = without (vertex y) S
 
-      inside : T (has S (vertex y))
-      inside = next-in arcs n lists listed S h first more (g .ready)
+  -- the loop: as often as there are vertices is enough
+  pub peel-ready : (k : ℕ) (S : Set) (h : Halves) (first : ℕ) → size S ≤ k → Ready arcs n S h first [] → Peeled arcs n S first (peelFrom k lists first h)
+  unfolding peelFrom
+  peel-ready zero S h first few r = record { rest = S; many = 0; frees = untouched; number = omega (arith, all); ready = subst (λ (f : ℕ). Ready arcs n S h f []) all r }
+    where
+      all : first ≡ length (h .waiting)
+      all = omega (arith, r .started, r .state .number, length-drop first (h .waiting))
+  peel-ready (suc k) S h first few r =
+      go (ltb first (length (h .waiting))) refl
+      (λ more. peel-ready k (without (vertex (getD (h .waiting) first 0)) S) (lowerAll (lists (getD (h .waiting) first 0)) h) (suc first) (less more) (ready-next S h first more r))
+    where
+      x : ℕ
+      x = vertex (getD (h .waiting) first 0)
 
-  -- nothing waits
-  module _ (S : Set) (h : Halves) (picked : List ℕ) (g : Going arcs may n S h picked (length (h .waiting))) where
-    pub still : Between arcs n S (h .degrees) [] []
-    still = subst (λ (q : List ℕ). Between arcs n S (h .degrees) q []) (drop-length (h .waiting)) (g .ready .state)
+      after : Halves
+      after = peelFrom k lists (suc first) (lowerAll (lists (getD (h .waiting) first 0)) h)
 
+      less : first < length (h .waiting) → size (without (vertex (getD (h .waiting) first 0)) S) ≤ k
+      less more = omega (arith, size-without (vertex (getD (h .waiting) first 0)) S (next-in arcs n lists listed S h first more r))
+
+      go : (t : Bool) → ltb first (length (h .waiting)) ≡ t → (first < length (h .waiting) → Peeled arcs n (without x S) (suc first) after) → Peeled arcs n S first (cond t after h)
+      go true e q =
+          let more = ltb-true first (length (h .waiting)) e in
+          let p = q more in
+          record {
+            rest = p .rest;
+            many = suc (p .many);
+            frees = first-freed arcs x (next-in arcs n lists listed S h first more r) (next-loose arcs n lists listed S h first more r) (p .frees);
+            number = omega (arith, p .number);
+            ready = p .ready;
+          }
+      go false e q =
+          let all : first ≡ length (h .waiting) = omega (arith, r .started, ltb-false first (length (h .waiting)) e) in
+          record { rest = S; many = 0; frees = untouched; number = omega (arith, all); ready = subst (λ (f : ℕ). Ready arcs n S h f []) all r }
+
+  -- the first removal: what waits at the start
+  pub first-peeled : (d q : List ℕ) → Seeding arcs n n d q → Peeled arcs n (vertices n) 0 (peelFrom n lists 0 (record { degrees = d; waiting = q }))
+  first-peeled d q b =
+      peel-ready n (vertices n) (record { degrees = d; waiting = q }) 0 (omega (arith, size-vertices n)) (record { started = omega arith; state = seeding-done arcs n d q b })
+
+-- nothing waits
+module _ (arcs : List Arc) (n : ℕ) (S : Set) (h : Halves) (r : Ready arcs n S h (length (h .waiting)) []) where
+  pub still : Between arcs n S (h .degrees) [] []
+  still = subst (λ (q : List ℕ). Between arcs n S (h .degrees) q []) (drop-length (h .waiting)) (r .state)
+
+-- ---- what is told
+
+module _ (arcs : List Arc) (may : ℕ → Bool) (n : ℕ) where
+  -- all that may go freely at first has gone
+  pub first-going : (S : Set) (h : Halves) (end : ℕ) → Frees arcs (vertices n) S end → Ready arcs n S h end [] → Going arcs may n S h [] end
+  first-going S h end f r = record {
+    ready = r;
+    told = subst (Sofar arcs may n S []) (zero-add end) (sofar-frees arcs may n f [] 0 (sofar-start arcs may n));
+    spent = omega (arith, frees-size arcs f, size-vertices n);
+  }
+
+  module _ (lists : ℕ → List ℕ) (listed : Listed arcs n lists) (S : Set) (h : Halves) (picked : List ℕ) (g : Going arcs may n S h picked (length (h .waiting))) where
     -- what is left is stable: the core
     pub going-stable : Stable arcs S
-    going-stable = all-stable arcs n S (h .degrees) still
+    going-stable = all-stable arcs n S (h .degrees) (still arcs n S h (g .ready))
 
-    -- the best node is chosen
-    pub going-pick : (x : ℕ) → Best arcs may S x → Going arcs may n (without x S) (pick lists x h) (x ∷ picked) (length (h .waiting))
+    -- the best node goes
+    pick-ready : (x : ℕ) → Best arcs may S x → Ready arcs n (without x S) (pick lists x h) (length (h .waiting)) []
     unfolding pick
-    going-pick x b = record {
-      ready = lower-all-ready arcs n R (lists (2 * x + 1)) [] (lowerAll (lists (2 * x)) k) first (λ t m. listed .low (2 * x + 1) t (omega (arith, low)) m)
-          (subst (Ready arcs n R (lowerAll (lists (2 * x)) k) first) (sym (append-nil (lists (2 * x + 1))))
-          (lower-all-ready arcs n R (lists (2 * x)) (lists (2 * x + 1)) k first (λ t m. listed .low (2 * x) t (omega (arith, low)) m)
-          (pick-left arcs n lists listed S h first x low (all-live arcs n S (h .degrees) still x (b .inside)) (g .ready))));
-      told = told-best arcs may n offers S picked first (g .told) x going-stable b;
-      spent = omega (arith, g .spent, size-without x S (b .inside));
-    }
+    pick-ready x b =
+        lower-all-ready arcs n R (lists (2 * x + 1)) [] (lowerAll (lists (2 * x)) k) first (λ t m. listed .low (2 * x + 1) t (omega (arith, low)) m)
+        (subst (Ready arcs n R (lowerAll (lists (2 * x)) k) first) (sym (append-nil (lists (2 * x + 1))))
+        (lower-all-ready arcs n R (lists (2 * x)) (lists (2 * x + 1)) k first (λ t m. listed .low (2 * x) t (omega (arith, low)) m)
+        (pick-left arcs n lists listed S h first x low (all-live arcs n S (h .degrees) (still arcs n S h (g .ready)) x (b .inside)) (g .ready))))
       where
         R : Set
         R = without x S
@@ -127,52 +179,30 @@ module _ (arcs : List Arc) (may : ℕ → Bool) (n : ℕ) (lists : ℕ → List 
         low : x < n
         low = omega (arith, has-lt S x (b .inside), g .ready .state .set-long)
 
-    -- all have gone: the answer is told
-    pub going-done : length (h .waiting) + length picked ≡ n
-        → ((x : ℕ) → In x (choice arcs may n .ids) ↔ In x picked) × (choice arcs may n .free ≡ length (h .waiting))
-    going-done e = told-done arcs may n offers S picked (length (h .waiting)) (g .told) (size-empty S (omega (arith, g .spent)))
+    -- one stage: the best node goes, and all that then may go freely. What was free before is all that waited so far.
+    pub stage-going : (x : ℕ) → Best arcs may S x
+        → let k : Halves = peelFrom (n - length (h .waiting)) lists (length (h .waiting)) (pick lists x h) in
+        (U : Set) × Going arcs may n U k (x ∷ picked) (length (k .waiting))
+    stage-going x b = (
+      p .rest,
+      record {
+        ready = p .ready;
+        told = subst (Sofar arcs may n (p .rest) (x ∷ picked)) (p .number) (sofar-frees arcs may n (p .frees) (x ∷ picked) (length (h .waiting)) (sofar-best arcs may n S picked (length (h .waiting)) (g .told) x going-stable b));
+        spent = omega (arith, p .number, frees-size arcs (p .frees), less, g .spent);
+      },
+    )
+      where
+        less : suc (size (without x S)) ≡ size S
+        less = size-without x S (b .inside)
+
+        p : Peeled arcs n (without x S) (length (h .waiting)) (peelFrom (n - length (h .waiting)) lists (length (h .waiting)) (pick lists x h))
+        p = peel-ready arcs n lists listed (n - length (h .waiting)) (without x S) (pick lists x h) (length (h .waiting)) (omega (arith, g .spent, less)) (pick-ready x b)
+
+    -- all have gone: the choice is answered, by what was picked
+    pub going-done : Bounded arcs n → length (h .waiting) + length picked ≡ n
+        → (c : Chosen) × (keepingChoice arcs may n ≡ answered c) × Ascends (c .ids) × ((x : ℕ) → In x (c .ids) ↔ In x picked) × (c .free ≡ length (h .waiting))
+    going-done bounded e = sofar-done arcs may n S picked (length (h .waiting)) (g .told) bounded (size-empty S (omega (arith, g .spent)))
 
     -- and if not all have gone, something is left
     pub going-some : length (h .waiting) + length picked ≢ n → (x : ℕ) × T (has S x)
     going-some e = size-some S (pos-of (size S) (λ z. e (omega (arith, g .spent))))
-
-  -- ---- the loop: as often as there are vertices is enough
-
-  pub peel-going : (k : ℕ) (S : Set) (h : Halves) (picked : List ℕ) (first : ℕ) → size S ≤ k → Going arcs may n S h picked first
-      → (U : Set) × Going arcs may n U (peelFrom k lists first h) picked (length (peelFrom k lists first h .waiting))
-  unfolding peelFrom
-  peel-going zero S h picked first few g = (S, subst (Going arcs may n S h picked) all g)
-    where
-      all : first ≡ length (h .waiting)
-      all = omega (arith, g .ready .started, g .ready .state .number, length-drop first (h .waiting))
-  peel-going (suc k) S h picked first few g =
-      go (ltb first (length (h .waiting))) refl
-      (λ more. peel-going k (without (vertex (getD (h .waiting) first 0)) S) (lowerAll (lists (getD (h .waiting) first 0)) h) picked (suc first) (less more) (going-next S h picked first more g))
-    where
-      after : Halves
-      after = peelFrom k lists (suc first) (lowerAll (lists (getD (h .waiting) first 0)) h)
-
-      less : first < length (h .waiting) → size (without (vertex (getD (h .waiting) first 0)) S) ≤ k
-      less more = omega (arith, size-without (vertex (getD (h .waiting) first 0)) S (next-in arcs n lists listed S h first more (g .ready)))
-
-      go : (t : Bool) → ltb first (length (h .waiting)) ≡ t → (first < length (h .waiting) → (U : Set) × Going arcs may n U after picked (length (after .waiting)))
-          → (U : Set) × Going arcs may n U (cond t after h) picked (length (cond t after h .waiting))
-      go true e r = r (ltb-true first (length (h .waiting)) e)
-      go false e r =
-          let all : first ≡ length (h .waiting) = omega (arith, g .ready .started, ltb-false first (length (h .waiting)) e) in
-          (S, subst (Going arcs may n S h picked) all g)
-
-  -- one stage: the best node goes, and all that then may go freely. What was free before is all that waited so far.
-  pub stage-going : (S : Set) (h : Halves) (picked : List ℕ) (x : ℕ) → Going arcs may n S h picked (length (h .waiting)) → Best arcs may S x
-      → let k : Halves = peelFrom (n - length (h .waiting)) lists (length (h .waiting)) (pick lists x h) in
-      (U : Set) × Going arcs may n U k (x ∷ picked) (length (k .waiting))
-  stage-going S h picked x g b =
-      let f = going-pick S h picked g x b in
-      peel-going (n - length (h .waiting)) (without x S) (pick lists x h) (x ∷ picked) (length (h .waiting)) (omega (arith, f .spent)) f
-
-  -- the first: what waits at the start
-  pub first-going : (d q : List ℕ) → Seeding arcs n n d q → let k : Halves = peelFrom n lists 0 (record { degrees = d; waiting = q }) in
-      (U : Set) × Going arcs may n U k [] (length (k .waiting))
-  first-going d q b =
-      let g = going-start d q b in
-      peel-going n (vertices n) (record { degrees = d; waiting = q }) [] 0 (omega (arith, g .spent)) g

@@ -7,7 +7,7 @@ use Prim.Native.Nat.{ℕ, zero, suc, _+_, _-_, _*_, _/_, _%_, _≤_, _<_}
 use lib.Dec.{T, eqb, ltb}
 use lib.ListN.{length, getD, set, drop}
 use Rattle.choice.specs.Arcs.{Arc, In, bump, howMany, Set, has, vertices, size, passing, into, out}
-use Rattle.choice.specs.Degrees.{between, Told}
+use Rattle.choice.specs.Degrees.{between, Sofar}
 
 -- ---- halves
 
@@ -120,7 +120,7 @@ pub record Ready (arcs : List Arc) (n : ℕ) (S : Set) (h : Halves) (first : ℕ
 -- what holds before and after each vertex: `first` were removed freely so far, and those of `picked` were chosen
 pub record Going (arcs : List Arc) (may : ℕ → Bool) (n : ℕ) (S : Set) (h : Halves) (picked : List ℕ) (first : ℕ) : Type 0 where
   pub ready : Ready arcs n S h first []
-  pub told : Told arcs may n S picked first
+  pub told : Sofar arcs may n S picked first
   pub spent : first + length picked + size S ≡ n
 
 -- the first k vertices are seeded

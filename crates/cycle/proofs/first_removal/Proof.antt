@@ -9,12 +9,11 @@ use Rattle.le.specs.declared.Row.{Row}
 use Rattle.le.proofs.Places.{length-words}
 use Rattle.form.specs.Form.{bodyOf}
 use Rattle.form.specs.Stored.{graphOf}
-use Rattle.choice.specs.Drawing.{vertexCount}
 use Rattle.halves.specs.Halves.{peelFrom}
 use Rattle.tables.specs.Tables.{pickedAt}
 use Rattle.removal.specs.Room.{source, halvesIn, listIn, Went, Lists}
 use Rattle.incidence.proofs.Facts.{facts}
-use Rattle.cycle.proofs.Begin.{seeded-roomy, seeded-lists, first}
+use Rattle.cycle.proofs.Begin.{drawn, seeded-roomy, seeded-lists, first}
 use borrow.Author.Needs.{needs}
 use Rattle.cycle.proofs.first_removal.Statement.{statement}
 use Rattle.cycle.proofs.first_removal.Tie as tie
@@ -33,12 +32,9 @@ peel-requires c κs =
     let s = c .before .before .before .before .before .before .before .before .before .before .before .before .before in
     let a = s .args in
     let f = facts (s .pre .1) in
-    let n-is : a .z .nodes + a .z .edges ≡ vertexCount (graphOf (a .src .now)) = λ i. f .nodes i + f .edges i in
-    let proper = s .pre .1 .formed .proper in
     let n = a .z .nodes + a .z .edges in
     let q = source (a .src .now) (bodyOf (a .z)) in
     let g = graphOf (a .src .now) in
-    let fewn = f .few-nodes in
     let o = c .before .before .before .before .before .before .before .before .before .build in
     let p = c .before .before .before .before .seed-all in
     let W = words (o .last .0) in
@@ -46,8 +42,8 @@ peel-requires c κs =
     let long : pickedAt ≤ length W = omega (arith, length-words (o .last .0), o .kept .0) in (
       (omega arith, omega (arith, f .few, f .nodes, f .edges), omega arith, p .ensures .few, omega (arith, p .kept .0, o .kept .0)),
       (
-        seeded-roomy q g proper (a .z .nodes) n (f .nodes) n-is (omega (arith, f .nodes, f .few-nodes)) (omega (arith, f .few, f .nodes, f .edges)) (f .few-ports) W X X long (o .ensures) (p .result) 0 (p .ensures),
-        subst (λ (r : Row). Lists (source (a .src .now) r) X (a .z .nodes) n) (sym (c .body-row .ensures)) (seeded-lists q g proper (a .z .nodes) n (f .nodes) n-is (omega (arith, f .nodes, f .few-nodes)) (omega (arith, f .few, f .nodes, f .edges)) (f .few-ports) W X X long (o .ensures) (p .result) 0 (p .ensures)),
+        seeded-roomy q g (a .z .nodes) n (drawn (s .pre .1)) W X X long (o .ensures) (p .result) 0 (p .ensures),
+        subst (λ (r : Row). Lists (source (a .src .now) r) X (a .z .nodes) n) (sym (c .body-row .ensures)) (seeded-lists q g (a .z .nodes) n (drawn (s .pre .1)) W X X long (o .ensures) (p .result) 0 (p .ensures)),
       ),
     )
 
@@ -56,12 +52,9 @@ returns c =
     let s = c .before .before .before .before .before .before .before .before .before .before .before .before .before .before .before .before in
     let a = s .args in
     let f = facts (s .pre .1) in
-    let n-is : a .z .nodes + a .z .edges ≡ vertexCount (graphOf (a .src .now)) = λ i. f .nodes i + f .edges i in
-    let proper = s .pre .1 .formed .proper in
     let n = a .z .nodes + a .z .edges in
     let q = source (a .src .now) (bodyOf (a .z)) in
     let g = graphOf (a .src .now) in
-    let fewn = f .few-nodes in
     let o = c .before .before .before .before .before .before .before .before .before .before .before .before .build in
     let p = c .before .before .before .before .before .before .before .seed-all in
     let r = c .before .before .peel in
@@ -69,7 +62,7 @@ returns c =
     let X = words (p .last .0) in
     let Y = words (r .last .0) in
     let long : pickedAt ≤ length W = omega (arith, length-words (o .last .0), o .kept .0) in
-    first q g proper (a .z .nodes) n (f .nodes) n-is (omega (arith, f .nodes, f .few-nodes)) (omega (arith, f .few, f .nodes, f .edges)) (f .few-ports) W X Y long (o .ensures) (p .result) (r .result) (p .ensures)
+    first q g (a .z .nodes) n (drawn (s .pre .1)) W X Y long (o .ensures) (p .result) (r .result) (p .ensures)
     (subst (λ (w : Row). Went X Y n (r .result) (peelFrom (n - 0) (listIn (source (a .src .now) w) X (a .z .nodes)) 0 (halvesIn X n (p .result)))) (c .before .before .before .body-row .ensures) (r .ensures))
 
 pub first-removal-spec : {M : Type 1} → statement M

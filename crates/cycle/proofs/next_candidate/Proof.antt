@@ -17,7 +17,7 @@ use Rattle.cycle.proofs.next_candidate.Statement.{statement}
 use Rattle.cycle.proofs.next_candidate.Tie as tie
 
 abbrev Inv-loop : tie.InvT-loop
-Inv-loop room₀ nodes n m room = Queued (may nodes) (degreesIn (words room) n) (keysIn (words room) queueAt m) × Outside queueAt (queueAt + 2 * m) (words room₀) (words room) × (length room ≡ length room₀)
+Inv-loop room₀ nodes n m room = Queued (may (words room₀) nodes) (degreesIn (words room) n) (keysIn (words room) queueAt m) × Outside queueAt (queueAt + 2 * m) (words room₀) (words room) × (length room ≡ length room₀)
 
 abbrev μ-loop : tie.MeasureT-loop
 μ-loop room₀ nodes n m room = sum (keysIn (words room) queueAt m)

@@ -14,10 +14,13 @@ use borrow.Author.Needs.{needs}
 use Rattle.cycle.proofs.push_candidate.Statement.{statement}
 use Rattle.cycle.proofs.push_candidate.Tie as tie
 
+may-be-chosen-requires : tie.Need-may-be-chosen-requires
+may-be-chosen-requires c κs = let s = c .before .before in ((omega arith, omega arith), s .pre .1 .2)
+
 returns : tie.Need-returns
 returns c =
-    let a = c .before .before .before .args in
-    let no : may (a .nodes) (a .v) ≡ false = sym (c .before .may-be-chosen .ensures) ∙ not-true _ (c .if1 .taken) in
+    let a = c .before .before .before .before .args in
+    let no : may (words (a .room .now)) (a .nodes) (a .v) ≡ false = sym (c .before .may-be-chosen .ensures) ∙ not-true _ (c .if1 .taken) in
     record {
       barred = λ _. (refl, refl);
       gone = λ _. (refl, refl);
@@ -34,7 +37,7 @@ returns-2 c =
 
 key-now-requires : tie.Need-key-now-requires
 key-now-requires c κs =
-    let s = c .before .before .before .before .before .before .before in
+    let s = c .before .before .before .before .before .before .before .before in
     let a = s .args in
     let W = words (a .room .now) in
     let q = s .pre .1 .1 in
@@ -42,11 +45,11 @@ key-now-requires c κs =
 
 returns-3 : tie.Need-returns-3
 returns-3 c =
-    let a = c .before .before .before .before .before .before .before .before .before .before .before .before .args in
+    let a = c .before .before .before .before .before .before .before .before .before .before .before .before .before .args in
     let W = words (a .room .now) in
     let o = c .before .before .push in
     let s = c .before .before .before .before .before .before .before .before .before in
-    let yes : may (a .nodes) (a .v) ≡ true = sym (s .before .may-be-chosen .ensures) ∙ not-false _ (s .if1 .left) in
+    let yes : may (words (a .room .now)) (a .nodes) (a .v) ≡ true = sym (s .before .may-be-chosen .ensures) ∙ not-false _ (s .if1 .left) in
     record {
       barred = λ f. let z : _≡_ {A = ℕ} 0 1 = cc (sym yes ∙ f) in absurd (omega arith);
       gone = λ z. absurd (c .before .before .before .before .before .before .if2 .left (c .before .before .before .before .before .before .before .word .ensures ∙ z));
@@ -57,7 +60,8 @@ pub push-candidate-spec : {M : Type 1} → statement M
 push-candidate-spec =
     tie.close
     (tie.spec
-    (λ c κs. search needs)
+    may-be-chosen-requires
+    (λ c. search needs)
     returns
     (λ c. search needs)
     (λ c κs. search needs)
