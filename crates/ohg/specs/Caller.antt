@@ -1,11 +1,11 @@
--- What a caller of the choice, of spiderizing its list and of the no-loop check may rely on where the code is 0: promises about the returned number
--- and the bytes of the lent buffers alone, one field for each. `codeIn`, `aIn` and `bIn` take the number apart.
+-- What a caller of the choice, with kept nodes and without, of spiderizing its list and of the no-loop check may rely on where the code is 0: promises about the returned number
+-- and the bytes of the lent buffers alone, one field for each; and where the code is 16. `codeIn`, `aIn` and `bIn` take the number apart.
 -- Assumes nothing.
 use mathlib.Core.Path.{_≡_}
 use mathlib.Core.Bool.{cond}
 use mathlib.Core.List.{List, []}
 use mathlib.Core.Logic.{_↔_}
-use Prim.Native.Nat.{ℕ, _+_, _*_, _≤_}
+use Prim.Native.Nat.{ℕ, _+_, _*_, _/_, _%_, _≤_}
 use lib.Dec.{eqb}
 use lib.ListN.{length, take, drop}
 use Rattle.le.specs.Le.{Below, numberAt, numbers}
@@ -17,6 +17,7 @@ use Rattle.graph.specs.Versions.{fitting, read}
 use Rattle.choice.specs.Arcs.{In, vertices, Cycle, NoCycle}
 use Rattle.choice.specs.Choice.{Chooses, Ascends}
 use Rattle.choice.specs.Drawing.{arcs, vertexCount, selectable}
+use Rattle.choice.specs.Keeping.{unkept, KeptCycle}
 use Rattle.ohg.specs.Unpacked.{aIn, bIn}
 
 -- the bytes of an id in the lists of a call on these bytes, as ohg_width of the header tells them: 4 where the version is 2, else 2
@@ -62,6 +63,57 @@ pub record ToldChoice (b : List ℕ) (r : ℕ) (old new : List ℕ) (g : Graph) 
   -- the list is wholly in the buffer, and what was behind it stays
   pub fits : listBytes b r ≤ length old
   pub stays : drop (listBytes b r) new ≡ drop (listBytes b r) old
+
+-- the ids in the bytes of a list that a caller gives to a call on these bytes
+abbrev pub idsGiven : List ℕ → List ℕ → List ℕ
+idsGiven b list = numbers (widthIn b) (length list / widthIn b) list
+
+-- the bytes b are the graph g, and with them the bytes kept are such a list as ohg_cycle_breaking_nodes_keeping asks for
+pub record Keepable (b kept : List ℕ) (g : Graph) : Type 0 where
+  -- the bytes are this graph
+  pub drawing : Draws b g
+  -- which has no pending pair
+  pub pairless : length (g .pairs) ≡ 0
+  -- the list ends with an id
+  pub whole : length kept % widthIn b ≡ 0
+  -- each is a node
+  pub known : Below (length (g .labels)) (idsGiven b kept)
+
+-- ohg_cycle_breaking_nodes_keeping on the bytes b and the list kept returned r, and its list buffer was old and is new
+pub record ToldKeeping (b kept : List ℕ) (r : ℕ) (old new : List ℕ) (g : Graph) : Type 0 where
+  -- the bytes are this graph without a pending pair, and the list is of its nodes
+  pub given : Keepable b kept g
+  -- the listed ids ascend strictly
+  pub ascends : Ascends (listed b r new)
+  -- each is a node
+  pub nodes : Below (length (g .labels)) (listed b r new)
+  -- no kept node is listed
+  pub spared : (v : ℕ) → In v (listed b r new) → In v (idsGiven b kept) → ⊥
+  -- there are none exactly if no directed cycle exists
+  pub none : (listed b r new ≡ []) ↔ NoCycle (arcs g)
+  -- every directed cycle passes through one of them
+  pub meets : (c : List ℕ) → Cycle (arcs g) c → (v : ℕ) × In v c × In v (listed b r new)
+  -- every run of the stages among the nodes that are not kept, whatever the order of its free removals, chooses just these ids and makes just b free
+  -- removals
+  pub every-run : (ids : List ℕ) (free : ℕ) → Chooses (arcs g) (unkept (idsGiven b kept) g) (vertices (vertexCount g)) ids free → (ids ≡ listed b r new) × (free ≡ bIn r)
+  -- and there is such a run
+  pub some-run : Chooses (arcs g) (unkept (idsGiven b kept) g) (vertices (vertexCount g)) (listed b r new) (bIn r)
+  -- a and b together are all nodes and edges
+  pub all : aIn r + bIn r ≡ length (g .labels) + length (g .edges)
+  -- the list is wholly in the buffer, and what was behind it stays
+  pub fits : listBytes b r ≤ length old
+  pub stays : drop (listBytes b r) new ≡ drop (listBytes b r) old
+
+-- the same call where the code is 16
+pub record ToldKeptCycle (b kept : List ℕ) (r : ℕ) (old new : List ℕ) (g : Graph) : Type 0 where
+  -- the bytes are this graph without a pending pair, and the list is of its nodes
+  pub given : Keepable b kept g
+  -- some directed cycle has only kept nodes
+  pub cycle : KeptCycle (idsGiven b kept) g
+  -- there is no place to name
+  pub place : bIn r ≡ 0
+  -- and the buffer is as it was
+  pub stays : new ≡ old
 
 -- ohg_spiderize_nodes on the bytes b and that list, which is the first a ids of the buffer `list` by the number c, returned r; its buffer was old and is
 -- new; g is the graph that was read, and k the one that is answered

@@ -11,7 +11,7 @@ use mir.Syntax.{w8}
 use mir.Val.{Fits}
 use lib.ListN.{length, getD, drop, length-append}
 use borrow.Author.Tests.{le-leb, eqb-true, eqb-false}
-use Rattle.choice.specs.Calls.{cycleBroken, cycleBreakingNodesCall, roomCycleBreakingNodes}
+use Rattle.choice.specs.Calls.{listing, cycleBroken, cycleBreakingNodesCall, roomCycleBreakingNodes}
 use Rattle.choice.specs.Choice.{Above, Ascends}
 use Rattle.choice.specs.Drawing.{chosen}
 use Rattle.form.specs.Form.{Gives, outcome, refusalOf, meantBy, meant, reading}
@@ -121,7 +121,7 @@ module _ (b : List ℕ) (z : Sizes) (h : Alone b z) where
   cut-paired room p = rw (s .read-as, p)
 
   cut-pairless : (room : ℕ) → unpaired g ≡ answered g → length (row w (chosen g .ids)) ≤ room → cycleBroken b room ≡ answered cut
-  unfolding cycleBroken fit _>>=_ _else_ _>>_
+  unfolding cycleBroken listing fit _>>=_ _else_ _>>_
   cut-pairless room p fits = rw (s .read-as, p, le-leb (length (row w (chosen g .ids))) room fits)
 
   -- the chosen ids are few, and small enough for their width
