@@ -5,7 +5,7 @@
  * What is lent as `const` is never written. All numbers in slices are little-endian. A parameter means the same wherever it stands:
  *
  *   src                                   a stored graph
- *   sources, targets, ids                 a list of ids, as wide as in `src`: 2 bytes each in version 1, 4 in version 2
+ *   sources, targets, ids, kept           a list of ids, as wide as in `src`: 2 bytes each in version 1, 4 in version 2
  *   labels, source_labels, target_labels  a list of labels, 4 bytes each
  *   label, v, w, edge                     one label, two node ids, an edge id
  *   out                                   gets the stored form of the answered graph
@@ -38,18 +38,18 @@ extern "C" {
 /* The place that a refusal carries: by 1 to 6 a byte of `src`, by 7 an entry of a list, both counted from 0. A place that is too large for
  * 32 bits is given as 4,294,967,295.
  *
- *   1                 the length
- *   2                 0
- *   3                 3
- *   4                 the first byte of the count that broke its limit: in the header the first such count; at an edge its source count if
- *                     the sum of the ports passes the limit with it, else its target count
- *   5                 the length, if the form is too short: a header of version 2, labels, an edge's counts or ids, or lists that are not
- *                     all there; else the first byte too many
- *   6                 the first byte of the first bad id in stored order: the edges, of each its sources and then its targets, the global
- *                     sources, the global targets, the pairs
- *   7                 0 for an id given singly; these are looked at first. Then each list in the call's order: if its end is broken the
- *                     number of its whole entries, else the index of its first bad id
- *   8, 9, 10, 11, 13  0 */
+ *   1                     the length
+ *   2                     0
+ *   3                     3
+ *   4                     the first byte of the count that broke its limit: in the header the first such count; at an edge its source count
+ *                         if the sum of the ports passes the limit with it, else its target count
+ *   5                     the length, if the form is too short: a header of version 2, labels, an edge's counts or ids, or lists that are not
+ *                         all there; else the first byte too many
+ *   6                     the first byte of the first bad id in stored order: the edges, of each its sources and then its targets, the global
+ *                         sources, the global targets, the pairs
+ *   7                     0 for an id given singly; these are looked at first. Then each list in the call's order: if its end is broken the
+ *                         number of its whole entries, else the index of its first bad id
+ *   8, 9, 10, 11, 13, 16  0 */
 #define OHG_PLACE(answer) OHG_B(answer)
 
 /* Why a call was refused; the first that holds, in this order, but OHG_SHORT_BUFFER for work room before all others, OHG_OTHER_LENGTH for a
@@ -66,6 +66,7 @@ enum ohg_refusal {
     OHG_BAD_LIST = 7,       /* a list in the call ends in a broken entry, or an id in the call is not below its count */
     OHG_PENDING_PAIR = 8,   /* the graph has a pending pair, and the operation needs none: merge joined nodes first, by ohg_quotient */
     OHG_LABELS_DIFFER = 11, /* two nodes that pending pairs join have different labels: give them one label, or delete the pair's nodes */
+    OHG_KEPT_CYCLE = 16,    /* some directed cycle has only kept nodes: free one of these wires, or redraw the loop */
     OHG_RESULT_LIMIT = 9,   /* the result would pass a limit of version 2: split the drawing */
     OHG_SHORT_BUFFER = 10   /* an answer buffer is shorter than the answer, or work room is shorter than its macro says */
 };
@@ -100,6 +101,7 @@ static inline uint32_t ohg_width(const uint8_t *src, size_t src_len) {
 #define OHG_ROOM_SPIDERIZE 196608
 #define OHG_ROOM_SPIDERIZE_NODES 196608
 #define OHG_ROOM_CYCLE_BREAKING_NODES 1390016
+#define OHG_ROOM_CYCLE_BREAKING_NODES_KEEPING 1390016
 #define OHG_ROOM_NO_LOOP 1190656
 #define OHG_ROOM_ONCE_FED 16384
 
@@ -195,6 +197,14 @@ uint64_t ohg_spiderize_nodes(const uint8_t *src, size_t src_len, const uint8_t *
  * there is no directed cycle.
  * a: ids in the list. b: vertices removed freely. Room: OHG_ROOM_CYCLE_BREAKING_NODES. Refusals: 10 (room), 1 to 6, 13, 8, 10. */
 uint64_t ohg_cycle_breaking_nodes(const uint8_t *src, size_t src_len, uint8_t *list, size_t list_len, uint8_t *room, size_t room_len);
+
+/* The same among the nodes that are not in the list `kept`, by the same score and tie: no kept node is answered. Repeats and order have no
+ * effect, and an empty list keeps nothing, which is ohg_cycle_breaking_nodes. Refused by 16 exactly if some directed cycle has only kept
+ * nodes, whatever edges it passes.
+ * a: ids in the list. b: vertices removed freely. Room: OHG_ROOM_CYCLE_BREAKING_NODES_KEEPING. Refusals: 10 (room), 1 to 6, 13, 7, 8, 16,
+ * 10. */
+uint64_t ohg_cycle_breaking_nodes_keeping(const uint8_t *src, size_t src_len, const uint8_t *kept, size_t kept_len, uint8_t *list,
+                                          size_t list_len, uint8_t *room, size_t room_len);
 
 /* Whether there is no directed cycle.
  * a: 1 yes, 0 no. b: 0. Room: OHG_ROOM_NO_LOOP. Refusals: 10 (room), 1 to 6, 13, 8. */
