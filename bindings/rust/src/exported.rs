@@ -53,6 +53,7 @@ exported! {
     ohg_delete_nodes(src ids;;; out map room);
     ohg_quotient(src;;; out map room);
     ohg_cycle_breaking_nodes(src;;; list room);
+    ohg_cycle_breaking_nodes_keeping(src kept;;; list room);
     ohg_spiderize(src;;; out room);
     ohg_spiderize_nodes(src ids;;; out room);
     ohg_no_loop(src;;; room);

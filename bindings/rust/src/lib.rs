@@ -247,15 +247,17 @@ impl Graph {
     ///
     /// Refused: [`PendingPair`](Refusal::PendingPair).
     pub fn cycle_breaking_nodes(&self) -> Result<Choice, Refused> {
-        let mut list = self.entry_for_each();
-        let packed = lent::with(|l| ohg_cycle_breaking_nodes(&self.form, &mut list, &mut l.room));
-        let (count, free) = answered(packed)?;
-        let nodes = list.chunks_exact(self.width()).take(count);
-        let nodes = nodes.map(|id| NodeId(number(id))).collect();
-        Ok(Choice {
-            nodes,
-            free: free as usize,
-        })
+        self.choice(|list, room| ohg_cycle_breaking_nodes(&self.form, list, room))
+    }
+
+    /// Chooses such nodes, but none with an id in this list: a kept node can't take a buffer. Repeats and order have no
+    /// effect, and an empty list is [`cycle_breaking_nodes`](Graph::cycle_breaking_nodes).
+    ///
+    /// Refused: [`BadList`](Refusal::BadList), [`PendingPair`](Refusal::PendingPair),
+    /// [`KeptCycle`](Refusal::KeptCycle) exactly where some directed cycle has only kept nodes.
+    pub fn cycle_breaking_nodes_keeping(&self, kept: &[u32]) -> Result<Choice, Refused> {
+        let kept = self.ids(kept.iter().copied());
+        self.choice(|list, room| ohg_cycle_breaking_nodes_keeping(&self.form, &kept, list, room))
     }
 
     /// The graph with its joined nodes merged, as by [`quotient`](Graph::quotient), and then the wiring of all nodes made
@@ -310,6 +312,19 @@ impl Graph {
             let (bytes, beside) = answered(call(&self.form, lent))?;
             lent.form[..bytes].clone_into(&mut self.form);
             Ok(beside)
+        })
+    }
+
+    /// The choice that a call on this graph answers in a list, given work room.
+    fn choice(&self, call: impl FnOnce(&mut [u8], &mut [u8]) -> u64) -> Result<Choice, Refused> {
+        let mut list = self.entry_for_each();
+        let packed = lent::with(|lent| call(&mut list, &mut lent.room));
+        let (count, free) = answered(packed)?;
+        let nodes = list.chunks_exact(self.width()).take(count);
+        let nodes = nodes.map(|id| NodeId(number(id))).collect();
+        Ok(Choice {
+            nodes,
+            free: free as usize,
         })
     }
 

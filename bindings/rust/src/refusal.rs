@@ -25,6 +25,8 @@ pub enum Refusal {
     PendingPair = 8,
     /// Two nodes that pending pairs join have different labels.
     LabelsDiffer = 11,
+    /// Some directed cycle has only kept nodes.
+    KeptCycle = 16,
     /// The result would pass a limit of version 2.
     ResultLimit = 9,
     /// A buffer or work room was too short. This crate lends enough for the library that it belongs to.
@@ -32,7 +34,7 @@ pub enum Refusal {
 }
 
 impl Refusal {
-    const ALL: [Refusal; 12] = [
+    const ALL: [Refusal; 13] = [
         Refusal::NoHeader,
         Refusal::NoMark,
         Refusal::OtherVersion,
@@ -43,11 +45,12 @@ impl Refusal {
         Refusal::BadList,
         Refusal::PendingPair,
         Refusal::LabelsDiffer,
+        Refusal::KeptCycle,
         Refusal::ResultLimit,
         Refusal::ShortBuffer,
     ];
 
-    /// The refusal's number, 1 to 11 or 13.
+    /// The refusal's number, 1 to 11, 13 or 16.
     pub fn number(self) -> u8 {
         self as u8
     }
@@ -88,6 +91,9 @@ impl Refusal {
             }
             Refusal::LabelsDiffer => {
                 "nodes that pairs join have different labels; give them one, or delete the pair's nodes"
+            }
+            Refusal::KeptCycle => {
+                "some directed cycle has only kept nodes; free one of these wires, or redraw the loop"
             }
             Refusal::ResultLimit => "the result would pass a limit; split the drawing",
             Refusal::ShortBuffer => {

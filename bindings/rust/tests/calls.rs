@@ -138,6 +138,54 @@ fn the_choice_meets_every_loop() {
 }
 
 #[test]
+fn the_choice_spares_kept_nodes() {
+    for graph in [Graph::empty(), p2(), p6(), p7(), larger_p6()] {
+        let choice = graph.cycle_breaking_nodes();
+        assert_eq!(graph.cycle_breaking_nodes_keeping(&[]), choice);
+    }
+    assert_eq!(p6().cycle_breaking_nodes_keeping(&[0]), chosen(&[1], 3));
+    let cut = p6().spiderize_nodes(&nodes(&[1])).unwrap();
+    assert_eq!(cut.no_loop(), Ok(true));
+    for kept in [&[1][..], &[1, 1]] {
+        let choice = p7().cycle_breaking_nodes_keeping(kept);
+        assert_eq!(choice, chosen(&[0, 2], 3));
+    }
+    let larger = larger_p6();
+    for kept in [&[2048, 5, 0][..], &[0, 5, 2048, 5]] {
+        let choice = larger.cycle_breaking_nodes_keeping(kept);
+        assert_eq!(choice, chosen(&[2049], 2051));
+    }
+    // Node 0 is on no loop, but between two.
+    let bridged = drawn(3, &[(9, &[1], &[1, 0]), (10, &[0, 2], &[2])]);
+    assert_eq!(bridged.cycle_breaking_nodes(), chosen(&[0, 1, 2], 2));
+    let keeping_the_bridge = bridged.cycle_breaking_nodes_keeping(&[0]);
+    assert_eq!(keeping_the_bridge, chosen(&[1, 2], 3));
+}
+
+#[test]
+fn a_loop_of_kept_nodes_is_refused() {
+    let blocked = Err(at(Refusal::KeptCycle, 0));
+    assert_eq!(p2().cycle_breaking_nodes_keeping(&[0]), blocked);
+    assert_eq!(p6().cycle_breaking_nodes_keeping(&[1, 0]), blocked);
+    // Its other loops could be broken.
+    assert_eq!(p7().cycle_breaking_nodes_keeping(&[2]), blocked);
+    let larger = larger_p6();
+    let both = larger.cycle_breaking_nodes_keeping(&[2049, 2048]);
+    assert_eq!(both, blocked);
+    // The list is looked at before, and so are pairs.
+    let bad = p6().cycle_breaking_nodes_keeping(&[0, 1, 2]);
+    assert_eq!(bad, Err(at(Refusal::BadList, 2)));
+    let p9 = joined(p6(), &[(0, 1)]);
+    let bad = p9.cycle_breaking_nodes_keeping(&[2]);
+    assert_eq!(bad, Err(at(Refusal::BadList, 0)));
+    let paired = p9.cycle_breaking_nodes_keeping(&[0, 1]);
+    assert_eq!(paired, Err(at(Refusal::PendingPair, 0)));
+    // No loop, so none of kept nodes either.
+    let p4 = Graph::identity(&[7]).unwrap();
+    assert_eq!(p4.cycle_breaking_nodes_keeping(&[0]), chosen(&[], 1));
+}
+
+#[test]
 fn the_checks_say_yes_and_no() {
     assert_eq!(Graph::empty().no_loop(), Ok(true));
     assert_eq!(p6().no_loop(), Ok(false));
@@ -255,6 +303,8 @@ fn refuses_foreign_ids(whole: Graph) {
         assert_eq!(graph.delete_edges(&[there, edge, edge]), Err(bad(1)));
         assert_eq!(graph.delete_nodes(&[first, node]), Err(bad(1)));
         assert_eq!(graph.spiderize_nodes(&[first, first, node]), Err(bad(2)));
+        let kept = graph.cycle_breaking_nodes_keeping(&[0, node.0]);
+        assert_eq!(kept, Err(bad(1)));
     }
     assert_eq!(graph, whole);
 }
@@ -498,4 +548,7 @@ fn a_refusal_says_its_number_its_place_and_what_to_do() {
     assert_eq!(at(Refusal::OtherForm, 0).to_string(), text);
     let text = "11: nodes that pairs join have different labels; give them one, or delete the pair's nodes";
     assert_eq!(at(Refusal::LabelsDiffer, 0).to_string(), text);
+    let text =
+        "16: some directed cycle has only kept nodes; free one of these wires, or redraw the loop";
+    assert_eq!(at(Refusal::KeptCycle, 0).to_string(), text);
 }
