@@ -1,4 +1,5 @@
-/* A load balancer's packet path: drawn, its joined pins merged, asked for loops, cut where the choice says, and asked again.
+/* A load balancer's packet path: drawn, its joined pins merged, asked for loops, cut where the choice says, but not at a wire that is kept,
+ * and asked again.
  *
  * bindings/rust/examples/packet_path.rs does the same and prints the same. It has the path as a picture, and what is printed worked
  * out by hand.
@@ -77,6 +78,17 @@ static void show(const char *name, const uint8_t *form, size_t len) {
     printf("  once fed: %s\n", OHG_A(once_fed) ? "yes" : "no");
 }
 
+/* The chosen wires, of ids as wide as this. A wire is named by the first of its pins. */
+static void show_buffers(const char *name, uint64_t answer, const uint8_t *list, size_t width, const uint32_t *wires) {
+    printf("%s: %u (removed freely: %u)\n", name, OHG_A(answer), OHG_B(answer));
+    for (size_t i = 0; i < OHG_A(answer); i++) {
+        uint32_t id = get(list + width * i, width);
+        size_t pin = 0;
+        while (wires[pin] != id) pin++;
+        printf("  wire %u, %s\n", id, pins[pin].name);
+    }
+}
+
 /* A call reads the graph in one of two buffers and writes its answer to the other, which is the graph from then on. */
 static void turn(uint8_t **path, uint8_t **next) {
     uint8_t *old = *path;
@@ -121,17 +133,14 @@ int main(void) {
     uint8_t list[4 * COUNT(pins)];
     width = ohg_width(path, len);
     answer = ohg_cycle_breaking_nodes(path, len, list, sizeof list, room, sizeof room);
-    uint32_t chosen = OHG_A(answered("ohg_cycle_breaking_nodes", answer));
-    printf("loop buffers: %u (removed freely: %u)\n", chosen, OHG_B(answer));
-    for (size_t i = 0; i < chosen; i++) {
-        uint32_t id = get(list + width * i, width);
-        /* A wire is named by the first of its pins. */
-        size_t pin = 0;
-        while (wires[pin] != id) pin++;
-        printf("  wire %u, %s\n", id, pins[pin].name);
-    }
+    show_buffers("loop buffers", answered("ohg_cycle_breaking_nodes", answer), list, width, wires);
+    /* Pins have become wires, by which a kept one is named. */
+    uint8_t kept[4];
+    put(kept, width, wires[MERGED]);
+    answer = ohg_cycle_breaking_nodes_keeping(path, len, kept, width, list, sizeof list, room, sizeof room);
+    show_buffers("loop buffers, merged kept", answered("ohg_cycle_breaking_nodes_keeping", answer), list, width, wires);
 
-    answer = ohg_spiderize_nodes(path, len, list, width * chosen, next, OHG_FORM_BYTES, room, sizeof room);
+    answer = ohg_spiderize_nodes(path, len, list, width * OHG_A(answer), next, OHG_FORM_BYTES, room, sizeof room);
     len = OHG_A(answered("ohg_spiderize_nodes", answer));
     show("spiderized", next, len);
     return 0;

@@ -1,4 +1,5 @@
-//! A load balancer's packet path: drawn, its joined pins merged, asked for loops, cut where the choice says, and asked again.
+//! A load balancer's packet path: drawn, its joined pins merged, asked for loops, cut where the choice says, but not at a wire
+//! that is kept, and asked again.
 //!
 //! ```text
 //! receive -arrived-> joiner -merged-> parser --body-------------> rewriter -ready-> splitter -leaving-> transmit
@@ -12,7 +13,8 @@
 //!
 //! A packet that no server takes is sent round again (retry, by way of body and by way of key), and the server picked
 //! last is probed for the next pick (health): three loops, and each needs a buffer. The wire back is long, and is drawn as
-//! two pins that are marked as joined: retry at the splitter, and again at the joiner.
+//! two pins that are marked as joined: retry at the splitter, and again at the joiner. Joiner and parser are one hard block,
+//! and merged runs inside of it: no buffer can stand there, so it is kept.
 //!
 //! What is printed, worked out by hand. Retry (8) and again (9) become one wire, numbered as the first of them, so the
 //! wires are nodes 0 to 8, as many as the pins but one, and the blocks edges 0 to 7: 17 vertices.
@@ -23,12 +25,14 @@
 //! - Without it probe, health, pick and key go: 4. Left are merged, body, ready and retry, with the four blocks between
 //!   them. All score 1, and the lowest is chosen: merged (1).
 //! - Without it three wires and four blocks go, which is all: 7. Chosen are 1 and 4; freely went 4 + 4 + 7 = 15.
-//! - Merged has two entries and server three, so spiderizing them adds 5 nodes to 9, and two spiders for each to 8 edges.
+//! - Where merged is kept, server is chosen as before, and of merged, body, ready and retry then the lowest other one: body
+//!   (2). Without it the other three wires and four blocks go. Chosen are 2 and 4, and as many went freely.
+//! - Body has two entries and server three, so spiderizing them adds 5 nodes to 9, and two spiders for each to 8 edges.
 //!   The spiders have a port for each of the 5 entries and two for each of the 2 nodes: 19 + 5 + 4 = 28.
 //! - Probe and rewriter both use server, so the path is not once-fed. Afterwards each fresh node joins one entry to one
-//!   spider, merged and server each join two spiders, and the other wires are as they were, fed and used once.
+//!   spider, body and server each join two spiders, and the other wires are as they were, fed and used once.
 
-use ohg::{Graph, NodeId, Refused};
+use ohg::{Choice, Graph, NodeId, Refused};
 
 const ARRIVED: NodeId = NodeId(0);
 const MERGED: NodeId = NodeId(1);
@@ -79,6 +83,17 @@ fn show(name: &str, graph: &Graph) -> Result<(), Refused> {
     Ok(())
 }
 
+/// The chosen wires. A wire is named by the first of its pins.
+fn show_buffers(name: &str, choice: &Choice, wires: &[NodeId]) {
+    let Choice { nodes, free } = choice;
+    println!("{name}: {} (removed freely: {free})", nodes.len());
+    for node in nodes {
+        let pin = wires.iter().position(|wire| wire == node);
+        let (name, _) = PINS[pin.expect("every wire has a pin")];
+        println!("  wire {}, {name}", node.0);
+    }
+}
+
 fn main() -> Result<(), Refused> {
     let mut path = Graph::discrete(&PINS.map(|(_, bits)| bits))?;
     for (kind, sources, targets) in BLOCKS {
@@ -92,17 +107,11 @@ fn main() -> Result<(), Refused> {
     show("packet path", &path)?;
 
     let choice = path.cycle_breaking_nodes()?;
-    println!(
-        "loop buffers: {} (removed freely: {})",
-        choice.nodes.len(),
-        choice.free
-    );
-    for node in &choice.nodes {
-        // A wire is named by the first of its pins.
-        let pin = wires.iter().position(|wire| wire == node);
-        let (name, _) = PINS[pin.expect("every wire has a pin")];
-        println!("  wire {}, {name}", node.0);
-    }
+    show_buffers("loop buffers", &choice, &wires);
+    // Pins have become wires, by which a kept one is named.
+    let kept = wires[MERGED.0 as usize];
+    let choice = path.cycle_breaking_nodes_keeping(&[kept.0])?;
+    show_buffers("loop buffers, merged kept", &choice, &wires);
 
     show("spiderized", &path.spiderize_nodes(&choice.nodes)?)
 }
