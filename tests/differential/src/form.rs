@@ -67,6 +67,8 @@ pub enum Refusal {
     Pair = 8,
     /// Two nodes of one class have different labels.
     Labels = 11,
+    /// Some directed cycle has only kept nodes.
+    KeptCycle = 16,
     /// The result would pass a limit of version 2.
     Result = 9,
     /// An answer buffer is shorter than the answer, or the work room shorter than the call's.

@@ -14,7 +14,7 @@ pub struct Operation {
     pub parameters: &'static [Parameter],
     /// The refusals that it gives.
     pub refusals: &'static [u8],
-    /// Arguments picked by hand: for each of its refusals by 7, 8, 11 and 9, and for the last sizes before 9.
+    /// Arguments picked by hand: for each of its refusals by 7, 8, 11, 16 and 9, and for the last sizes before 9.
     pub picked: fn() -> Vec<Arguments>,
     /// The arguments to try it with on a stored graph.
     pub arguments: fn(&[u8], &mut Rng) -> Vec<Arguments>,

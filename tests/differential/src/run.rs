@@ -15,7 +15,7 @@ use std::collections::BTreeMap;
 use std::mem::{discriminant, Discriminant};
 
 /// The highest refusal number.
-const MOST_CODE: usize = 13;
+const MOST_CODE: usize = 16;
 
 /// How much is tried.
 #[derive(Clone, Copy)]

@@ -21,9 +21,15 @@ struct Rest {
 
 /// The chosen nodes, ascending, and the number of vertices removed freely: of each stage, those outside its core.
 pub fn choice(graph: &Graph) -> (Vec<usize>, usize) {
+    let none = vec![false; graph.hypergraph.nodes.len()];
+    choice_keeping(graph, &none).expect("a core that is not empty has a node")
+}
+
+/// The same among the nodes that are not kept; none where they have gone and there is still a core.
+pub fn choice_keeping(graph: &Graph, kept: &[bool]) -> Option<(Vec<usize>, usize)> {
     let mut rest = Rest::of(graph);
     // `max_by_key` takes the last of several; from the highest id down that is the lowest.
-    let mut in_core: Vec<usize> = (0..graph.hypergraph.nodes.len()).rev().collect();
+    let mut in_core: Vec<usize> = (0..kept.len()).rev().filter(|&node| !kept[node]).collect();
     let mut chosen = vec![];
     let mut free = 0;
     loop {
@@ -32,7 +38,7 @@ pub fn choice(graph: &Graph) -> (Vec<usize>, usize) {
         let score = |node: &&usize| rest.into[**node] * rest.out[**node];
         let Some(&best) = in_core.iter().max_by_key(score) else {
             chosen.sort_unstable();
-            return (chosen, free);
+            return (!rest.left.contains(&true)).then_some((chosen, free));
         };
         chosen.push(best);
         rest.take(best);

@@ -1,7 +1,8 @@
-//! The choice of cycle-breaking nodes, and the no-loop check.
+//! The choice of cycle-breaking nodes, without kept nodes and with them, and the no-loop check.
 
 pub mod definition;
 pub mod families;
+pub mod keeping;
 
 use crate::arguments::graph_alone;
 use crate::call::{Answer, Arguments, Outcome};
@@ -44,11 +45,24 @@ const OPERATIONS: &[Operation] = &[
         arguments: graph_alone,
         expected: no_loop,
     },
+    Operation {
+        number: 20,
+        name: "ohg_cycle_breaking_nodes_keeping",
+        parameters: &[Input, Input, Answered, Room],
+        refusals: &[1, 2, 3, 4, 5, 6, 13, 7, 8, 16, 10],
+        picked: keeping::picked,
+        arguments: keeping::graph_and_kept_list,
+        expected: keeping::cycle_breaking_nodes_keeping,
+    },
 ];
 
 /// 1 to 6, 13 and 8.
 pub fn unpaired(arguments: &Arguments) -> Checked<Graph> {
-    let graph = graph(arguments)?;
+    strict(graph(arguments)?)
+}
+
+/// 8.
+fn strict(graph: Graph) -> Checked<Graph> {
     if graph.hypergraph.is_strict() {
         Ok(graph)
     } else {
@@ -59,8 +73,7 @@ pub fn unpaired(arguments: &Arguments) -> Checked<Graph> {
 /// The original's list, and the free count of the definition, whose own list must be the same.
 fn cycle_breaking_nodes(arguments: &Arguments) -> Outcome {
     let graph = unpaired(arguments)?;
-    let chosen = cycle::cycle_breaking_nodes(&graph).expect("there are no pairs");
-    let chosen: Vec<usize> = chosen.iter().map(|node| node.0).collect();
+    let chosen = chosen_by_original(&graph);
     let (defined, free) = definition::choice(&graph);
     assert_eq!(chosen, defined, "document 01's choice is the original's");
     Ok(Answer {
@@ -68,6 +81,11 @@ fn cycle_breaking_nodes(arguments: &Arguments) -> Outcome {
         b: free as u32,
         written: vec![id_bytes(chosen, form::width(arguments.graph()))],
     })
+}
+
+fn chosen_by_original(graph: &Graph) -> Vec<usize> {
+    let chosen = cycle::cycle_breaking_nodes(graph).expect("there are no pairs");
+    chosen.iter().map(|node| node.0).collect()
 }
 
 fn no_loop(arguments: &Arguments) -> Outcome {

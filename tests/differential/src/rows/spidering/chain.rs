@@ -1,5 +1,5 @@
-//! Calls one after the other, each on what the port answered before: merge, choose, spiderize what was chosen, and ask
-//! for loops, of which there must be none; and spiderize all, which must be as T-11 says, by both checks too, and spiderize it
+//! Calls one after the other, each on what the port answered before: merge, choose, with kept nodes too, spiderize what was
+//! chosen, and ask for loops, of which there must be none; and spiderize all, which must be as T-11 says, by both checks too, and spiderize it
 //! again.
 
 use super::{explicit, GROUP};
@@ -19,6 +19,7 @@ const SPIDERIZE_NODES: u8 = 16;
 const NO_LOOP: u8 = 17;
 const ONCE_FED: u8 = 18;
 const QUOTIENT: u8 = 19;
+const CYCLE_BREAKING_NODES_KEEPING: u8 = 20;
 
 /// Follows the chains on the graphs that spiderizing is tried on, large and small, and on more by chance.
 pub fn follow(run: &mut Run, amount: Amount) {
@@ -51,6 +52,19 @@ fn choose_on(run: &mut Run, form: &[u8]) {
     let Some(chosen) = answered(run, CYCLE_BREAKING_NODES, graph) else {
         return;
     };
+    break_on(run, form, &chosen);
+    // Every other one of those that were chosen is kept, and others are chosen in their place where there are such.
+    let width = form::width(form);
+    let entries = chosen.written[0].chunks(width);
+    let kept = entries.step_by(2).collect::<Vec<_>>().concat();
+    let graph_and_kept = Arguments::new(&[], &[form, &kept]);
+    if let Some(chosen) = answered(run, CYCLE_BREAKING_NODES_KEEPING, graph_and_kept) {
+        break_on(run, form, &chosen);
+    }
+}
+
+/// Spiderizes what was chosen, and asks for loops.
+fn break_on(run: &mut Run, form: &[u8], chosen: &Answer) {
     let graph_and_list = Arguments::new(&[], &[form, &chosen.written[0]]);
     let Some(spiderized) = answered(run, SPIDERIZE_NODES, graph_and_list) else {
         return;
