@@ -5,7 +5,7 @@
 use crate::call::{packed, written, Arguments, Call, Due};
 use crate::cases::{self, damage, random};
 use crate::form::{self, Drawing, VERSION_1, VERSION_2};
-use crate::operation::Function;
+use crate::operation::{Function, Group};
 use crate::rng::Rng;
 use crate::rooms::Rooms;
 use crate::rows::{functions, GROUPS};
@@ -19,13 +19,13 @@ const FILL: u8 = 0xA5;
 const NO_ROOM: u32 = u32::MAX;
 
 /// Random drawings for each function.
-const RANDOM: usize = 16;
+const RANDOM: usize = 12;
 
 /// Refused forms for each function and each refusal.
-const REFUSED: usize = 4;
+const REFUSED: usize = 3;
 
 /// Of the forms whose places are worked out by hand, each function that reads a graph has one in so many.
-const DEALT: usize = 4;
+const DEALT: usize = 6;
 
 /// Of arguments picked by hand, those with up to so many bytes in and out are recorded in the exact call and in another one. Of
 /// those with up to so many more, one of each kind is recorded in the exact call: of those that tell the highest place up to 2,
@@ -98,7 +98,7 @@ pub fn list(rooms: &Rooms, rng: &mut Rng) -> Result<List, String> {
                 }
             }
             for _ in 0..RANDOM {
-                let form = form::write(&(group.drawing)(rng, 8));
+                let form = short_form(group, rng);
                 list.put_form(&function, &form, Which::OneByChance, rng);
             }
             // Dealt out, so that the list grows little as functions are added.
@@ -118,6 +118,16 @@ pub fn list(rooms: &Rooms, rng: &mut Rng) -> Result<List, String> {
         }
     }
     Ok(list)
+}
+
+/// The form of a drawing by chance, drawn again while it is long.
+fn short_form(group: &Group, rng: &mut Rng) -> Vec<u8> {
+    loop {
+        let form = form::write(&(group.drawing)(rng, 8));
+        if form.len() <= SMALL {
+            return form;
+        }
+    }
 }
 
 /// For each refusal of a form, the short forms that are refused by it.
