@@ -66,7 +66,8 @@ static void check_numbers(const struct function *f, const struct graph *g, uint6
     uint32_t a = OHG_A(returned), b = OHG_B(returned), due = 0;
     if (f->second == NODE_ID || f->second == ENTRIES) due = g->nodes;
     if (f->second == EDGE_ID) due = g->edges;
-    if (f->second == FREE ? a > g->nodes || b > g->nodes + g->edges - a : b != due) fail(f->name, "b is what its comment says");
+    if (f->second == FREE) due = g->nodes + g->edges - a; /* each vertex is chosen or removed freely */
+    if (b != due) fail(f->name, "b is what its comment says");
     if (f->answers == SIZES && a != OHG_SIZES_BYTES) fail(f->name, "the sizes have 24 bytes");
     if (f->answers == YES && a > 1) fail(f->name, "a check answers 0 or 1");
     if ((f->answers == FORM || f->answers == FORM_AND_MAP) && (a < 15 || a > OHG_FORM_BYTES)) fail(f->name, "a form has 15 to 655,385 bytes");
@@ -187,6 +188,52 @@ static void check_merging(struct desk *d, const struct call *c, const struct out
     else check_spiderized(d, c, o, &m);
 }
 
+/* The same answer where the kept list is turned round and given twice. */
+static void check_repeats(struct desk *d, const struct call *c, const struct outcome *o) {
+    static uint8_t turned[LIST_MOST];
+    uint32_t width = ohg_width(c->src.at, c->src.len);
+    size_t len = c->list[0].len;
+    if (2 * len > LIST_MOST) return;
+    for (size_t i = 0; i < 2 * len; i += width) memcpy(turned + i, c->list[0].at + (2 * len - width - i) % len, width);
+    struct lent l;
+    uint64_t returned = follow(d, KEEPING, c->src, (struct slice){turned, 2 * len}, &l);
+    if (returned != o->returned || memcmp(answered(d, &l, 0), o->bytes[0], o->len[0]) != 0)
+        fail(functions[KEEPING].name, "repeats and order have no effect");
+}
+
+/* With no kept nodes it is the choice without them. */
+static void check_none_kept(struct desk *d, const struct call *c, const struct outcome *o) {
+    struct lent l;
+    uint64_t returned = follow(d, CHOOSE, c->src, (struct slice){0}, &l);
+    if (returned != o->returned || memcmp(answered(d, &l, 0), o->bytes[0], o->len[0]) != 0)
+        fail(functions[KEEPING].name, "with no kept nodes it is as before");
+}
+
+/* The list is the choice of keep.c, as far as it is known, and has no kept node. */
+static void check_chosen(const struct function *f, const struct kept *k, const struct outcome *o, uint32_t width) {
+    for (size_t i = 0; i < o->len[0]; i += width) {
+        uint32_t id = get(o->bytes[0] + i, width);
+        if (k->kept[id]) fail(f->name, "no kept node is chosen");
+        if (k->known && !k->chosen[id]) fail(f->name, "it gives the choice among the nodes that are not kept");
+    }
+    if (k->known && (OHG_A(o->returned) != k->ids || OHG_B(o->returned) != k->free)) fail(f->name, "it gives the choice's numbers");
+}
+
+/* What a kept list does: a bad one is refused before a pair, and a cycle of kept nodes after it. */
+static void check_keeping(struct desk *d, const struct call *c, const struct outcome *o, const struct graph *g) {
+    static struct kept k;
+    const struct function *f = &functions[c->function];
+    unsigned code = OHG_CODE(o->returned);
+    if (c->list[0].len == 0) check_none_kept(d, c, o);
+    if (code == OHG_BAD_LIST) return;
+    if (!is_node_list(c->src, c->list[0])) fail(f->name, "a bad list is refused before pairs and cycles are looked at");
+    check_repeats(d, c, o);
+    if (g->pairs) return;
+    keep(c->src, c->list[0], &k);
+    if (k.blocked != (code == OHG_KEPT_CYCLE)) fail(f->name, "16 is for a directed cycle that has only kept nodes");
+    if (code == OHG_DONE) check_chosen(f, &k, o, ohg_width(c->src.at, c->src.len));
+}
+
 /* The call with the buffers that the case names: the same answer, or 10 where one is too short. */
 static void call_again(struct desk *d, const struct call *c, const struct outcome *o) {
     const struct function *f = &functions[c->function];
@@ -243,5 +290,6 @@ void run_case(struct desk *d, const struct call *c, struct outcome *o) {
     bool merges = c->function == QUOTIENT || ((c->function == SPIDERIZE || c->function == SPIDERIZE_NODES) && g.pairs);
     if (merges && !g.refused) check_merging(d, c, o);
     if (OHG_CODE(o->returned) == OHG_DONE) check_answer(d, c, o, &g);
+    if (c->function == KEEPING && !g.refused) check_keeping(d, c, o, &g);
     current = NULL;
 }

@@ -18,6 +18,10 @@ uint64_t __wrap_ohg_delete_nodes(const uint8_t *src, size_t src_len, const uint8
 uint64_t __real_ohg_cycle_breaking_nodes(const uint8_t *src, size_t src_len, uint8_t *list, size_t list_len, uint8_t *room, size_t room_len);
 uint64_t __wrap_ohg_cycle_breaking_nodes(const uint8_t *src, size_t src_len, uint8_t *list, size_t list_len, uint8_t *room, size_t room_len);
 
+uint64_t __real_ohg_cycle_breaking_nodes_keeping(const uint8_t *src, size_t src_len, const uint8_t *kept, size_t kept_len, uint8_t *list,
+                                                 size_t list_len, uint8_t *room, size_t room_len);
+uint64_t __wrap_ohg_cycle_breaking_nodes_keeping(const uint8_t *src, size_t src_len, const uint8_t *kept, size_t kept_len, uint8_t *list,
+                                                 size_t list_len, uint8_t *room, size_t room_len);
 uint64_t __real_ohg_spiderize(const uint8_t *src, size_t src_len, uint8_t *out, size_t out_len, uint8_t *room, size_t room_len);
 uint64_t __wrap_ohg_spiderize(const uint8_t *src, size_t src_len, uint8_t *out, size_t out_len, uint8_t *room, size_t room_len);
 uint64_t __real_ohg_spiderize_nodes(const uint8_t *src, size_t src_len, const uint8_t *ids, size_t ids_len, uint8_t *out, size_t out_len,
@@ -328,4 +332,121 @@ uint64_t __wrap_ohg_spiderize_nodes(const uint8_t *src, size_t src_len, const ui
         return bad < ids_len / width ? placed(OHG_BAD_LIST, bad) : r;
     }
     return plain.at ? __real_ohg_spiderize_nodes(plain.at, plain.len, ids, ids_len, out, out_len, room, room_len) : r;
+}
+
+/* Whether a list has an id. */
+static bool lists(struct slice list, uint32_t width, uint32_t id) {
+    for (size_t i = 0; i + width <= list.len; i += width)
+        if (get(list.at + i, width) == id) return true;
+    return false;
+}
+
+/* The first entry of a list whose id stands before it already, or the number of entries. */
+static size_t first_repeat(struct slice list, uint32_t width) {
+    size_t i = 0;
+    while (i < list.len / width && !lists((struct slice){list.at, width * i}, width, get(list.at + width * i, width))) i++;
+    return i;
+}
+
+/* A form without the entries of kept nodes at edges, so that these nodes are removed freely at once. */
+static struct slice freed(const uint8_t *src, size_t src_len, struct slice kept) {
+    uint32_t width = ohg_width(src, src_len), edges = count_of(src, src_len, 1);
+    uint8_t *form = changed(src, src_len), *at = form + edges_at(src, src_len);
+    const uint8_t *from = src + edges_at(src, src_len), *end = src + src_len;
+    while (edges--) {
+        uint8_t *counts = at;
+        uint32_t count[] = {get(from, width), get(from + width, width)}, left[] = {0, 0};
+        from += 2 * width;
+        at += 2 * width;
+        for (int side = 0; side < 2; side++)
+            for (; count[side]--; from += width) {
+                if (lists(kept, width, get(from, width))) continue;
+                memcpy(at, from, width);
+                at += width;
+                left[side]++;
+            }
+        for (int side = 0; side < 2; side++) put(counts + width * side, left[side], width);
+    }
+    memcpy(at, from, end - from);
+    return (struct slice){form, at + (end - from) - form};
+}
+
+/* A kept list and, after it, the first of those that were chosen. */
+static struct slice and_first(struct slice kept, const uint8_t *list, uint32_t width) {
+    static uint8_t more[LIST_MOST + 4];
+    memcpy(more, kept.at, kept.len);
+    memcpy(more + kept.len, list, width);
+    return (struct slice){more, kept.len + width};
+}
+
+/* What a call with kept nodes is given. */
+struct given {
+    struct slice form, kept;
+};
+
+static uint64_t keep_as(struct given g, uint8_t *list, size_t list_len, uint8_t *room, size_t room_len) {
+    return __real_ohg_cycle_breaking_nodes_keeping(g.form.at, g.form.len, g.kept.at, g.kept.len, list, list_len, room, room_len);
+}
+
+/* Whether what is chosen when no node is kept has a kept node. */
+static bool wants_kept(struct given g, uint8_t *room, size_t room_len) {
+    static uint8_t list[OHG_LIST_BYTES];
+    uint32_t width = ohg_width(g.form.at, g.form.len);
+    uint64_t r = __real_ohg_cycle_breaking_nodes(g.form.at, g.form.len, list, sizeof list, room, room_len);
+    for (uint32_t i = 0; i < OHG_A(r); i++)
+        if (lists(g.kept, width, get(list + width * i, width))) return true;
+    return false;
+}
+
+/* What is given to the port in place of what was given, where it is answered. */
+static struct given instead(struct given was, uint8_t *room, size_t room_len) {
+    static uint8_t list[OHG_LIST_BYTES];
+    struct given other = was;
+    uint32_t width = ohg_width(was.form.at, was.form.len);
+    uint64_t r = keep_as(was, list, sizeof list, room, room_len);
+    bool done = OHG_CODE(r) == OHG_DONE, blocked = OHG_CODE(r) == OHG_KEPT_CYCLE;
+    switch (planted()) {
+    case 62: if (done) other.kept.len = 0; break; /* kept nodes are chosen */
+    case 63: if (blocked) other.kept.len = 0; break; /* 16 never */
+    case 64: if (done || blocked) other.form = freed(was.form.at, was.form.len, was.kept); break;
+    case 65: if (done && OHG_A(r) && was.kept.len) other.kept = and_first(was.kept, list, width); break; /* another choice that breaks every loop */
+    case 66: if (done && was.kept.len) other.kept.len = width; break; /* the first of the list alone */
+    }
+    return OHG_CODE(keep_as(other, list, sizeof list, room, room_len)) == OHG_DONE ? other : was;
+}
+
+/* Whether 16 is given for what is answered. */
+static bool is_blocked(struct given g, uint8_t *room, size_t room_len) {
+    static uint8_t list[OHG_LIST_BYTES];
+    bool done = OHG_CODE(keep_as(g, list, sizeof list, room, room_len)) == OHG_DONE;
+    switch (planted()) {
+    case 67: return done && wants_kept(g, room, room_len);
+    case 68: return done && g.kept.len;
+    }
+    return false;
+}
+
+uint64_t __wrap_ohg_cycle_breaking_nodes_keeping(const uint8_t *src, size_t src_len, const uint8_t *kept, size_t kept_len, uint8_t *list,
+                                                 size_t list_len, uint8_t *room, size_t room_len) {
+    struct given was = {{(uint8_t *)src, src_len}, {(uint8_t *)kept, kept_len}};
+    if (planted() >= 67 && planted() <= 68 && is_blocked(was, room, room_len)) return OHG_KEPT_CYCLE;
+    if (planted() >= 62 && planted() <= 66) return keep_as(instead(was, room, room_len), list, list_len, room, room_len);
+    uint64_t r = keep_as(was, list, list_len, room, room_len);
+    bool done = OHG_CODE(r) == OHG_DONE, blocked = OHG_CODE(r) == OHG_KEPT_CYCLE, paired = OHG_CODE(r) == OHG_PENDING_PAIR;
+    uint32_t width = ohg_width(src, src_len);
+    size_t repeat;
+    switch (planted()) {
+    case 69: return blocked && list_len < width ? OHG_SHORT_BUFFER : r; /* 10 before 16 */
+    case 70: /* 16 before 8 */
+        if (paired) was.form = unpaired(src, src_len);
+        return paired && keep_as(was, list, 0, room, room_len) == OHG_KEPT_CYCLE ? OHG_KEPT_CYCLE : r;
+    case 71: return OHG_CODE(r) == OHG_BAD_LIST && count_of(src, src_len, 4) ? OHG_PENDING_PAIR : r;
+    case 72: /* repeats are refused */
+        repeat = done || blocked ? first_repeat(was.kept, width) : kept_len;
+        return repeat < kept_len / width ? placed(OHG_BAD_LIST, repeat) : r;
+    case 73: return blocked ? placed(r, 1) : r;
+    case 74: if (blocked && list_len) list[0] ^= 1; break;
+    case 75: return done && kept_len && OHG_B(r) ? r - (1ull << 32) : r;
+    }
+    return r;
 }

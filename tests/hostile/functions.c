@@ -29,8 +29,9 @@ FUNCTION(cycle_breaking_nodes, SRC, OUT, ROOM)
 FUNCTION(no_loop, SRC, ROOM)
 FUNCTION(once_fed, SRC, ROOM)
 FUNCTION(quotient, SRC, OUT, MAP, ROOM)
+FUNCTION(cycle_breaking_nodes_keeping, SRC, LIST0, OUT, ROOM)
 
-enum { DONE = 1 << 0, FORM_1_TO_6 = 0x7E, BAD_LIST = 1 << 7, PAIR = 1 << 8, LIMIT = 1 << 9, SHORT = 1 << 10, DIFFER = 1 << 11, OTHER_FORM = 1 << 13 };
+enum { DONE = 1 << 0, FORM_1_TO_6 = 0x7E, BAD_LIST = 1 << 7, PAIR = 1 << 8, LIMIT = 1 << 9, SHORT = 1 << 10, DIFFER = 1 << 11, OTHER_FORM = 1 << 13, KEPT = 1 << 16 };
 #define ALWAYS (DONE | SHORT)
 #define READS (ALWAYS | FORM_1_TO_6 | OTHER_FORM)
 #define MAKES (ALWAYS | BAD_LIST | LIMIT)
@@ -58,4 +59,6 @@ const struct function functions[FUNCTIONS] = {
     {"ohg_no_loop", no_loop, true, NO_NUMBER, NO_LIST, 0, 0, YES, NOTHING, ROOM_OF(NO_LOOP), READS | PAIR},
     {"ohg_once_fed", once_fed, true, NO_NUMBER, NO_LIST, 0, 0, YES, NOTHING, ROOM_OF(ONCE_FED), READS | PAIR},
     {"ohg_quotient", quotient, true, NO_NUMBER, NO_LIST, 0, 2, FORM_AND_MAP, ENTRIES, ROOM_OF(QUOTIENT), READS | DIFFER},
+    {"ohg_cycle_breaking_nodes_keeping", cycle_breaking_nodes_keeping, true, NO_NUMBER, NODES, 1, 1, LIST, FREE,
+     ROOM_OF(CYCLE_BREAKING_NODES_KEEPING), READS | BAD_LIST | PAIR | KEPT},
 };

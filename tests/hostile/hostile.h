@@ -16,7 +16,7 @@
 #endif
 #endif
 
-enum { FUNCTIONS = 20, CODES = 14, LISTS = 2, OUTS = 2, LENGTHS = OUTS + 1, FITS = 8, GUARD = 256 };
+enum { FUNCTIONS = 21, CODES = 17, LISTS = 2, OUTS = 2, LENGTHS = OUTS + 1, FITS = 8, GUARD = 256 };
 
 /* The most bytes that are lent: more than any of them has a use for. */
 enum { SRC_MOST = 700000, LIST_MOST = 1 << 19, OUT_MOST = OHG_FORM_BYTES + 1024, ROOM_MOST = OHG_ROOM_CYCLE_BREAKING_NODES + 4096 };
@@ -54,7 +54,7 @@ struct function {
 
 extern const struct function functions[FUNCTIONS];
 
-enum { READ = 0, REWRITE = 1, DISCRETE = 3, DELETE_NODES = 13, SPIDERIZE = 14, SPIDERIZE_NODES = 15, NO_LOOP = 17, QUOTIENT = 19 };
+enum { READ = 0, REWRITE = 1, DISCRETE = 3, DELETE_NODES = 13, SPIDERIZE = 14, SPIDERIZE_NODES = 15, CHOOSE = 16, NO_LOOP = 17, QUOTIENT = 19, KEEPING = 20 };
 
 /* ---- record.c: a call as the bytes of a file ---- */
 
@@ -135,6 +135,20 @@ struct merged {
 
 /* Merges the graph of a form that is taken. */
 void merge(struct slice src, struct merged *m);
+
+/* ---- keep.c: the choice with kept nodes, written from T-10's text apart from the port ---- */
+
+enum { STAGES_MOST = 128 }; /* vertices of a graph whose stages are gone through, which takes long */
+
+struct kept {
+    bool blocked; /* some directed cycle has only kept nodes */
+    bool known;   /* the graph is small, and unless it is blocked the choice stands here: */
+    uint32_t ids, free;
+    bool kept[NODES_MOST], chosen[NODES_MOST];
+};
+
+/* Chooses in the graph of a form that is taken and has no pairs, with a list of its nodes. */
+void keep(struct slice src, struct slice list, struct kept *k);
 
 /* ---- cases.c: calls that belong together ---- */
 

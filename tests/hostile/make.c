@@ -254,6 +254,16 @@ static size_t make_list(struct maker *m, uint8_t *to, enum entries entries, cons
     return most_of(len, LIST_MOST);
 }
 
+/* Many nodes of a graph, so that now and then a cycle has no others: half of them, most, or all. */
+static size_t make_kept(struct maker *m, uint8_t *to, uint32_t nodes, uint32_t width) {
+    struct random *r = &m->chance;
+    uint64_t kind = below(r, 3);
+    uint8_t *at = to;
+    for (uint32_t v = 0; v < nodes && v < NODES_MOST; v++)
+        if (kind == 2 || below(r, 8) < (kind ? 7 : 4)) at = put(at, v, width);
+    return at - to;
+}
+
 static void make_numbers(struct random *r, struct call *c, const uint32_t counts[2]) {
     switch (functions[c->function].numbers) {
     case NO_NUMBER: break;
@@ -274,6 +284,7 @@ struct call make_call(struct maker *m) {
         for (int i = 0; i < 2; i++) counts[i] = get(m->src + 5 + width * i, width);
     make_numbers(r, &c, counts);
     for (int i = 0; i < LISTS; i++) c.list[i] = (struct slice){m->list[i], i < f->lists ? make_list(m, m->list[i], f->entries, counts, width) : 0};
+    if (c.function == KEEPING && one_in(r, 2)) c.list[0].len = make_kept(m, m->list[0], counts[0], width);
     return c;
 }
 
