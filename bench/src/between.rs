@@ -114,7 +114,7 @@ fn call_at(address: usize, name: &str) -> Result<Call, String> {
                 unsafe { f(s.0, s.1, 0, list.0, list.1, list.0, list.1, out.0, out.1) }
             })
         }
-        "ohg_delete_edges" | "ohg_spiderize_nodes" => {
+        "ohg_delete_edges" | "ohg_spiderize_nodes" | "ohg_cycle_breaking_nodes_keeping" => {
             let f = function!(
                 *const u8,
                 usize,
@@ -204,7 +204,7 @@ enum Beside {
     EveryEighth,
 }
 
-const CALLS: [(&str, Inputs, Beside); 18] = [
+const CALLS: [(&str, Inputs, Beside); 19] = [
     ("ohg_read", RANDOM, Beside::Nothing),
     ("ohg_rewrite", RANDOM, Beside::Nothing),
     ("ohg_discrete", NODES, Beside::Nothing),
@@ -225,6 +225,7 @@ const CALLS: [(&str, Inputs, Beside); 18] = [
         Beside::EveryEighth,
     ),
     ("ohg_cycle_breaking_nodes", BARE, Beside::Nothing),
+    ("ohg_cycle_breaking_nodes_keeping", BARE, Beside::Nothing),
     ("ohg_no_loop", TREES, Beside::Nothing),
     ("ohg_once_fed", RINGS, Beside::Nothing),
 ];

@@ -66,7 +66,7 @@ pub fn measure(rooms: &Rooms) -> Result<Vec<Table>, String> {
 }
 
 /// Measures each family at each size, and prints the means over the families. What is answered is told in words.
-fn measure_families(
+pub fn measure_families(
     table: &mut Table,
     answers: impl Fn(&[Graph]) -> String,
     mut times: impl FnMut(&[Vec<u8>]) -> Vec<f64>,
@@ -96,25 +96,32 @@ pub fn chosen(graph: &Graph) -> Vec<NodeId> {
     cycle::cycle_breaking_nodes(graph).expect("there are no pairs")
 }
 
+/// The list of it, from a stored form.
+pub fn original_list(form: &[u8]) -> Vec<u8> {
+    let nodes = chosen(&decode(form));
+    id_bytes(nodes.iter().map(|node| node.0), width(form))
+}
+
 pub fn cycle_breaking_nodes(forms: &[Vec<u8>], room: &mut [u8]) -> Vec<f64> {
-    let stored = |form: &Vec<u8>| {
-        let nodes = chosen(&decode(form));
-        id_bytes(nodes.iter().map(|node| node.0), width(form))
-    };
+    choice_times(forms, |form, list| {
+        ohg_cycle_breaking_nodes(form, list, room)
+    })
+}
+
+/// The times of a call that answers the original's list, and those of the original.
+pub fn choice_times(forms: &[Vec<u8>], mut port: impl FnMut(&[u8], &mut [u8]) -> u64) -> Vec<f64> {
     let mut list = vec![0; MOST_LIST_BYTES];
     for form in forms {
-        let due = stored(form);
-        let returned = ohg_cycle_breaking_nodes(form, &mut list, room);
+        let due = original_list(form);
+        let returned = port(form, &mut list);
         assert_eq!(answered(returned), Some(due.len() / width(form)));
         assert_eq!(list[..due.len()], due, "the lists agree");
     }
     let graphs = decode_all(forms);
     medians(vec![
-        Side::new(forms, |form| {
-            ohg_cycle_breaking_nodes(form, &mut list, room)
-        }),
+        Side::new(forms, |form| port(form, &mut list)),
         Side::new(&graphs, chosen),
-        Side::new(forms, stored),
+        Side::new(forms, |form| original_list(form)),
     ])
 }
 

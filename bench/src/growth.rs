@@ -9,9 +9,10 @@ use crate::deleting::{delete_edges, delete_nodes};
 use crate::drawings::every_eighth;
 use crate::inputs::{
     Inputs, BARE, EIGHTH_OF_JOINED, EIGHTH_TO_SPIDERIZE, FALLING, GLOBAL_NODES, JOINED,
-    JOINED_TO_SPIDERIZE, NODES, NOTHING, ONE_EDGE, RANDOM, RINGS, RISING, TO_ADD_TO, TO_SPIDERIZE,
-    TREES,
+    JOINED_TO_SPIDERIZE, KEEPING, NODES, NOTHING, ONE_EDGE, RANDOM, RINGS, RISING, TO_ADD_TO,
+    TO_SPIDERIZE, TREES,
 };
+use crate::keeping::keeping_a_tenth;
 use crate::merging::quotient;
 use crate::once_fed::once_fed;
 use crate::plot::{self, Line, Panel};
@@ -43,7 +44,7 @@ const WITHOUT_ROOM: [(&str, Inputs, Times); 12] = [
     ("ohg_add_edge_target", TO_ADD_TO, add_edge_target),
 ];
 
-const IN_ROOM: [(&str, Inputs, TimesInRoom); 12] = [
+const IN_ROOM: [(&str, Inputs, TimesInRoom); 13] = [
     ("ohg_delete_edges", RANDOM, delete_edges),
     ("ohg_delete_nodes", RANDOM, delete_nodes),
     ("ohg_quotient", JOINED, quotient),
@@ -54,6 +55,7 @@ const IN_ROOM: [(&str, Inputs, TimesInRoom); 12] = [
     ("ohg_spiderize_nodes", EIGHTH_TO_SPIDERIZE, spiderize_eighth),
     ("ohg_spiderize_nodes", EIGHTH_OF_JOINED, spiderize_eighth),
     ("ohg_cycle_breaking_nodes", BARE, cycle_breaking_nodes),
+    ("ohg_cycle_breaking_nodes_keeping", KEEPING, keeping_a_tenth),
     ("ohg_no_loop", TREES, no_loop),
     ("ohg_once_fed", RINGS, once_fed),
 ];

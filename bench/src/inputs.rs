@@ -61,6 +61,12 @@ pub const BARE: Inputs = Inputs {
     ..RANDOM
 };
 
+/// Of each a tenth of the nodes is kept.
+pub const KEEPING: Inputs = Inputs {
+    words: "random, a tenth kept",
+    ..BARE
+};
+
 /// Each port gets a node of its own, and there are four to a node.
 pub const TO_SPIDERIZE: Inputs = Inputs {
     most: |most| most.nodes / 5,

@@ -14,6 +14,7 @@ mod deleting;
 mod drawings;
 mod growth;
 mod inputs;
+mod keeping;
 mod merging;
 mod once_fed;
 mod plot;
@@ -61,6 +62,7 @@ fn measure() -> Result<(), String> {
     tables.extend(deleting::measure(&rooms)?);
     tables.extend(merging::measure(&rooms)?);
     tables.extend(choice::measure(&rooms)?);
+    tables.extend(keeping::measure(&rooms)?);
     tables.extend(once_fed::measure(&rooms)?);
     tables.extend(spidering::measure(&rooms)?);
     table::print_summary(&tables);

@@ -70,9 +70,9 @@ const FEW: usize = 50;
 
 /// A form with some of its nodes, which stand beside it as ids too.
 pub struct Listed {
-    form: Vec<u8>,
-    nodes: Vec<NodeId>,
-    ids: Vec<u8>,
+    pub form: Vec<u8>,
+    pub nodes: Vec<NodeId>,
+    pub ids: Vec<u8>,
 }
 
 impl Listed {
