@@ -125,6 +125,8 @@ impl Run {
             forms += 1;
             self.form(&functions, &form, Run::some_lengths);
         }
+        // However many these were, some are left to chance.
+        let end = end.max(self.calls() + group.share * amount.per_share / 4);
         while self.calls() < end {
             forms += 1;
             let form = random::form(&mut self.rng, group);
