@@ -9,11 +9,12 @@ use lib.Seq.{sets}
 use borrow.Author.Tests.{le-leb, lt-leb}
 use Rattle.choice.specs.Calls.{listing}
 use Rattle.choice.specs.Choice.{Chosen}
+use Rattle.choice.specs.Drawing.{chosen}
 use Rattle.choice.specs.Keeping.{chosenKeeping}
 use Rattle.choice.specs.Promises.{Spares}
 use Rattle.choice.proofs.Fits.{below-in}
-use Rattle.choice.proofs.Kept.{answered-spares}
-use Rattle.cycle.specs.Begin.{ChosenIn, chosenAs, flaggedBelow}
+use Rattle.choice.proofs.Kept.{keeping-none, answered-spares}
+use Rattle.cycle.specs.Begin.{ChosenIn, chosenAs, keepingListed, flaggedBelow}
 use Rattle.cycle.specs.Stage.{freeOf}
 use Rattle.form.specs.Form.{meantBy, Gives}
 use Rattle.form.specs.declared.Refusal as form
@@ -24,7 +25,8 @@ use Rattle.graph.specs.Answer.{Answer, refused, answered, Refusal, _else_, _>>=
 use Rattle.graph.specs.Calls.{fit}
 use Rattle.graph.specs.Graph.{Graph, Format}
 use Rattle.le.specs.Le.{row}
-use Rattle.le.specs.Rows.{rowAt, placeIn, puts}
+use Rattle.le.specs.Rows.{rowAt, placeIn, span, puts}
+use Rattle.le.specs.declared.Row.{Row}
 use Rattle.form.proofs.Answers.{number-refused, number-answered, gives-refused, gives-done}
 use Rattle.graph.proofs.Steps.{never, same-answer, same-refusal, stops, goes}
 use Rattle.graph.proofs.Places.{sets-lay}
@@ -84,3 +86,8 @@ module _ (kept : List ℕ) (g : Graph) (nodes n : ℕ) (d : Drawn g nodes n) (X 
 
     pub keeping-listed : (f : Format) (room : ℕ) → (chosenKeeping kept g >>= listing f room) ≡ listing f room (chosenAs (flaggedBelow X nodes) free)
     keeping-listed f room = goes (listing f room) (answer .1) ∙ (λ i. listing f room (chosenAs (sym ids i) (answer .2 i)))
+
+-- a list without entries keeps nothing
+pub keeping-nothing : (g : Graph) (nodes n : ℕ) → Drawn g nodes n → (b : List ℕ) (r : Row) (f : Format) (room : ℕ) → keepingListed (span b r 0 0) g f room ≡ listing f room (chosen g)
+unfolding span
+keeping-nothing g nodes n d b r f room = goes (listing f room) (keeping-none g (d .proper))

@@ -6,9 +6,10 @@ use mathlib.Core.List.{List, [], _∷_, _++_}
 use Prim.Native.Nat.{ℕ, zero, suc, _+_, _≤_, _<_}
 use lib.Dec.{eqb}
 use lib.ListN.{getD, set}
-use Rattle.graph.specs.Answer.{answered}
-use Rattle.graph.specs.Graph.{Graph}
+use Rattle.graph.specs.Answer.{Answer, answered, Result, _>>=_}
+use Rattle.graph.specs.Graph.{Graph, Format}
 use Rattle.choice.specs.Arcs.{Set, vertices}
+use Rattle.choice.specs.Calls.{listing}
 use Rattle.choice.specs.Choice.{Chosen}
 use Rattle.choice.specs.Degrees.{Frees}
 use Rattle.choice.specs.Drawing.{arcs}
@@ -45,6 +46,10 @@ pub record ChosenIn (kept : List ℕ) (g : Graph) (X : List ℕ) (nodes : ℕ) (
 -- the choice of these ids and this free count
 abbrev pub chosenAs : List ℕ → ℕ → Chosen
 chosenAs ids free = record { ids = ids; free = free }
+
+-- the choice that keeps these nodes, as a call answers it
+abbrev pub keepingListed : List ℕ → Graph → Format → ℕ → Answer Result
+keepingListed kept g f room = chosenKeeping kept g >>= listing f room
 
 -- v, if it is flagged
 abbrev pub shown : List ℕ → ℕ → List ℕ

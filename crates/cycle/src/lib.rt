@@ -11,8 +11,8 @@ ghost use Rattle.choice.specs.Drawing.{noLoop};
 ghost use Rattle.choice.specs.Calls.{listing, noLoopCall, cycleBreakingNodesCall, cycleBreakingNodesKeepingCall};
 ghost use Rattle.form.specs.Form.{bodyOf, outcome, Gives};
 ghost use Rattle.graph.specs.Graph.{Format};
-ghost use Rattle.form.specs.Stored.{graphOf, Stored};
-ghost use Rattle.cycle.specs.Begin.{First, keptMarked, ChosenIn, chosenAs, shown, flaggedBelow};
+ghost use Rattle.form.specs.Stored.{graphOf, formatOf, Stored};
+ghost use Rattle.cycle.specs.Begin.{First, keptMarked, ChosenIn, chosenAs, keepingListed, shown, flaggedBelow};
 ghost use Rattle.removal.specs.Room.{source};
 ghost use Rattle.queue.specs.Keys.{radix, key, idOf, inOf, scoreOf, Heap, Queued};
 ghost use Rattle.queue.specs.Places.{keysIn};
@@ -169,7 +169,7 @@ pub fn greedy_feedback_nodes(
     Step::Number(last)
 }
 
-// Whether a vertex may be chosen: it is a node and not kept. Nothing else says which ones may. Where no node is kept its flag is not looked at: that took 3 % more time.
+// Whether a vertex may be chosen: it is a node and not kept. Nothing else says which ones may. Where no node is kept its flag is not looked at.
 fn may_be_chosen(room: &[u8], v: usize, nodes: usize, kept: usize) -> bool
     requires { ⌜ (nodes ≤ mostNodes) × (4 * queueAt ≤ length (now room)) ⌝ }
     requires { ⌜ (kept ≡ 0 → NoneKept (words (now room)) nodes) ⌝ }
@@ -341,6 +341,27 @@ fn put_answer(list: &mut [u8], room: &[u8], z: Sizes, free: usize) -> Outcome
     Outcome::Done { a: ids, b: free }
 }
 
+// The choice of a stored drawing that keeps the listed nodes, as the answer of a call; or 16 or 10. Both calls end here, so that the one without a list does not have to read
+// an empty one.
+fn choose(
+    src: &[u8],
+    z: Sizes,
+    kept: &[u8],
+    count: usize,
+    list: &mut [u8],
+    room: &mut [u8],
+) -> Outcome
+    requires { ⌜ roomChoice ≤ length (now room) ⌝ }
+    requires { ⌜ Stored (now src) z × Holds (now kept) (rowAt 0 (z .width)) count × Below (z .nodes) (span (now kept) (rowAt 0 (z .width)) 0 count) ⌝ }
+    ensures { λ r. ⌜ Gives (keepingListed (span (now (kept .entry)) (rowAt 0 (z .width)) 0 count) (graphOf (now (src .entry))) (formatOf (now (src .entry))) (length (now (list .entry)))) r (now (list .entry)) (now (list .exit)) ⌝ }
+{
+    let flagged = flag_nodes(room, src, z, kept, count);
+    let Step::Number(free) = flagged else {
+        return Outcome::Refused(flagged.refusal());
+    };
+    put_answer(list, room, z, free)
+}
+
 // The nodes that break every directed cycle of the stored drawing, chosen greedily among those that are not kept: how many ids stand in the list, and how many vertices
 // went freely.
 pub fn cycle_breaking_nodes_keeping(
@@ -367,16 +388,24 @@ pub fn cycle_breaking_nodes_keeping(
     let Step::Number(_) = pairs else {
         return Outcome::Refused(pairs.refusal());
     };
-    let flagged = flag_nodes(room, src, z, kept, count);
-    let Step::Number(free) = flagged else {
-        return Outcome::Refused(flagged.refusal());
-    };
-    put_answer(list, room, z, free)
+    choose(src, z, kept, count, list, room)
 }
 
 // The same where no node is kept.
 pub fn cycle_breaking_nodes(src: &[u8], list: &mut [u8], room: &mut [u8]) -> Outcome
     ensures { λ r. ⌜ Gives (cycleBreakingNodesCall (now (src .entry)) (length (now (list .entry))) (length (now (room .entry)))) r (now (list .entry)) (now (list .exit)) ⌝ }
 {
-    cycle_breaking_nodes_keeping(src, &src[0..0], list, room)
+    let lent = read::work_room(room.len(), ROOM_CYCLE_BREAKING_NODES);
+    let Step::Number(_) = lent else {
+        return Outcome::Refused(lent.refusal());
+    };
+    let graph = read::read(src);
+    let Reading::Sized(z) = graph else {
+        return Outcome::Refused(graph.refusal());
+    };
+    let pairs = read::unpaired(z);
+    let Step::Number(_) = pairs else {
+        return Outcome::Refused(pairs.refusal());
+    };
+    choose(src, z, &src[0..0], 0, list, room)
 }

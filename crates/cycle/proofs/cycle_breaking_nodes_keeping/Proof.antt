@@ -1,28 +1,23 @@
 -- `cycle::cycle_breaking_nodes_keeping` meets its contract.
 -- Assumes nothing.
 use mathlib.Core.List.{List}
-use mathlib.Core.Path.{_≡_, sym, ap, _∙_, subst}
-use Prim.Native.Nat.{ℕ, _+_, _≤_}
-use native.Mathlib.Omega.{arith}
+use mathlib.Core.Path.{_≡_, sym, subst}
+use Prim.Native.Nat.{ℕ, _≤_}
 use lib.ListN.{length}
 use denote.Ref.{now}
 use borrow.Author.Needs.{needs}
 use Rattle.choice.specs.Calls.{listing, roomCycleBreakingNodes, cycleBrokenKeeping, cycleBreakingNodesKeepingCall}
 use Rattle.choice.specs.Keeping.{chosenKeeping}
 use Rattle.form.specs.Form.{Gives}
-use Rattle.form.specs.Stored.{storedOf, graphOf, formatOf, Stored}
-use Rattle.form.specs.declared.Sizes.{Sizes}
+use Rattle.form.specs.Stored.{storedOf, graphOf, Stored}
 use Rattle.graph.specs.Answer.{Answer, Result, _>>=_}
 use Rattle.graph.specs.Graph.{Graph}
 use Rattle.graph.specs.Versions as versions
-use Rattle.le.specs.Le.{words}
 use Rattle.le.specs.Rows.{rowAt, span}
-use Rattle.form.proofs.Answers.{room-enough, gives-refused, passed-on}
+use Rattle.form.proofs.Answers.{room-enough, gives-refused}
 use Rattle.form.proofs.Listed.{ids-given, ids-below}
 use Rattle.form.proofs.Spared.{room-short, graph-unread, list-bad, graph-paired, graph-spared}
 use Rattle.form.proofs.Stored.{stored-bytes, stored-rows}
-use Rattle.cycle.proofs.Begin.{drawn}
-use Rattle.cycle.proofs.Calls.{keeping-refused, keeping-counted, keeping-listed}
 use Rattle.cycle.proofs.cycle_breaking_nodes_keeping.Statement.{statement}
 use Rattle.cycle.proofs.cycle_breaking_nodes_keeping.Tie as tie
 
@@ -91,41 +86,17 @@ returns-4 c =
     gives-refused (c .refusal4 .result) (now (a .list))
     (graph-paired (now (a .src)) (now (a .kept)) roomCycleBreakingNodes _ (next (length (now (a .list)))) (w .result) (w .ensures) _ (c .before .before .before .before .before .before .before .before .before .before .before .before .enum-told .given .1) (form (c .before .before .before .before .before .before .before .before)) (l .result) (l .ensures) _ (c .before .before .before .before .before .ids .given .1) (p .result) (p .ensures) _ (c .before .enum-told6 .given .1) _ (c .refusal4 .ensures))
 
-flag-nodes-requires : tie.Need-flag-nodes-requires
-flag-nodes-requires c κs =
-    let s = form (c .before .before .before .before .before .before .before .before) in
-    let l = c .before .before .before .before .before .before .before .id-list in
-    let e = c .before .before .before .before .before .ids .given .1 in
-    (long (c .before), (s, ids-given s _ _ (l .result) (l .ensures) _ e .there, ids-below s _ _ (l .result) (l .ensures) _ e))
+choose-requires : tie.Need-choose-requires
+choose-requires c κs =
+    let s = form (c .before .before .before .before .before .before .before .before .before) in
+    let l = c .before .before .before .before .before .before .before .before .id-list in
+    let e = c .before .before .before .before .before .before .ids .given .1 in
+    (long (c .before .before), (s, ids-given s _ _ (l .result) (l .ensures) _ e .there, ids-below s _ _ (l .result) (l .ensures) _ e))
 
 returns-5 : tie.Need-returns-5
 returns-5 c =
-    let a = c .before .before .before .before .before .before .before .before .before .before .before .before .before .before .before .before .before .before .before .before .before .before .before .before .before .args in
-    let f = c .before .before .before .before .before .flag-nodes in
-    gives-refused (c .refusal5 .result) (now (a .list))
-    (whole (c .before .before .before .before .before .before .before) ∙ keeping-refused (kept (c .before .before .before .before .before .before .before .before .before .before)) (graphOf (now (a .src))) _ _ (drawn (form (c .before .before .before .before .before .before .before .before .before .before .before .before .before .before))) (words (f .last .0)) (f .result) (f .ensures) (c .refusal5 .result) (passed-on (c .before .enum-told7 .given .1) (c .refusal5 .ensures)) (formatOf (now (a .src))) (length (now (a .list))))
-
-put-answer-requires : tie.Need-put-answer-requires
-put-answer-requires c κs =
-    let s = form (c .before .before .before .before .before .before .before .before .before .before .before .before .before .before .before .before) in
-    let d = drawn s in
-    let f = c .before .before .before .before .before .before .before .flag-nodes in
-    let room = long (c .before .before .before .before .before .before .before .before .before) in (
-      (omega (arith, room, f .kept .0), stored-rows s .low .width, d .few-nodes, d .few),
-      keeping-counted (kept (c .before .before .before .before .before .before .before .before .before .before .before .before)) (graphOf (now (c .before .before .before .before .before .before .before .before .before .before .before .before .before .before .before .before .before .before .before .before .before .before .before .before .before .before .before .args .src))) _ _ d (words (f .last .0)) (f .result) (f .ensures) _ (c .before .before .before .flagged .given .1),
-    )
-
-returns-6 : tie.Need-returns-6
-returns-6 c =
-    let a = c .before .before .before .before .before .before .before .before .before .before .before .before .before .before .before .before .before .before .before .before .before .before .before .before .before .before .before .before .before .before .args in
-    let b = now (a .src) in
-    let s = form (c .before .before .before .before .before .before .before .before .before .before .before .before .before .before .before .before .before .before .before) in
-    let f = c .before .before .before .before .before .before .before .before .before .before .flag-nodes in
-    let p = c .before .before .put-answer in
-    let width : formatOf b .width ≡ c .before .before .before .before .before .before .before .before .before .before .before .before .before .before .before .before .before .before .before .before .graph .given .0 .0 .width = ap (λ (y : Sizes). y .width) (sym (s .sizes)) in
-    subst (λ (x : Answer Result). Gives x (p .result) (now (a .list)) (p .last .0))
-    (sym (whole (c .before .before .before .before .before .before .before .before .before .before .before .before) ∙ keeping-listed (kept (c .before .before .before .before .before .before .before .before .before .before .before .before .before .before .before)) (graphOf b) _ _ (drawn s) (words (f .last .0)) (f .result) (f .ensures) _ (c .before .before .before .before .before .before .flagged .given .1) (formatOf b) (length (now (a .list)))))
-    (p .ensures (formatOf b) width)
+    let k = c .before .before .before .before .choose in
+    subst (λ (x : Answer Result). Gives x (k .result) (now (c .before .before .before .before .before .before .before .before .before .before .before .before .before .before .before .before .before .before .before .before .before .before .before .before .before .args .list)) (k .last .1 .1 .1 .1 .0)) (sym (whole (c .before .before .before .before .before .before .before))) (k .ensures)
 
 pub cycle-breaking-nodes-keeping-spec : {M : Type 1} → statement M
 cycle-breaking-nodes-keeping-spec =
@@ -151,13 +122,7 @@ cycle-breaking-nodes-keeping-spec =
     (λ c. search needs)
     (λ c κs. search needs)
     returns-4
-    flag-nodes-requires
+    choose-requires
     (λ c. search needs)
     (λ c. search needs)
-    (λ c κs. search needs)
-    (λ c. search needs)
-    returns-5
-    put-answer-requires
-    (λ c. search needs)
-    (λ c. search needs)
-    returns-6)
+    returns-5)
