@@ -239,7 +239,7 @@ const MERGING: [(&str, Inputs, Beside); 5] = [
     ("ohg_spiderize_nodes", EIGHTH_OF_JOINED, Beside::EveryEighth),
 ];
 
-/// A call's sizes up to the largest of version 1 are so many, of which three are measured.
+/// A call's sizes up to the largest of version 1 are so many, of which four are measured.
 const SIZES: usize = 8;
 
 /// The two that are measured on every family of drawings too.
@@ -408,13 +408,13 @@ fn measure_version(builds: &Builds, version: Version, nodes: &[usize]) -> Result
     Ok(())
 }
 
-/// Of version 1 a small number, a middle one and the most; of version 2, which has no small ones, a quarter of the most, and
-/// the most.
+/// Of version 1 the fewest, where what a call takes on any drawing is most of its time, a small number, a middle one and the
+/// most; of version 2, which has no small ones, a quarter of the most, and the most.
 fn numbers(inputs: &Inputs, version: Version) -> Vec<usize> {
     let most = inputs.most(version);
     if version == VERSION_2 {
         return vec![most / 4, most];
     }
     let numbers = inputs.numbers(version, SIZES);
-    vec![numbers[1], numbers[SIZES / 2], most]
+    vec![numbers[0], numbers[1], numbers[SIZES / 2], most]
 }
