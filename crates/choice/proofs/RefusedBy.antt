@@ -1,12 +1,12 @@
--- Which refusals the choice, with kept nodes and without, and the no-loop check can give, whatever they are given.
+-- Which refusals the choice, with kept nodes and without, the no-loop check and the loop that is shown can give, whatever they are given.
 -- Assumes nothing.
 use mathlib.Core.List.{List}
 use mathlib.Core.Path.{refl}
 use Prim.Native.Nat.{ℕ}
 use Rattle.graph.proofs.Refuses.{RefusedBy, answer-by, step-by}
 use Rattle.graph.proofs.RefusedBy.{reads-by, id-list-by, unpaired-by, fit-by, work-by}
-use Rattle.choice.specs.Calls.{listing, cycleBroken, cycleBrokenKeeping, cycleBreakingNodesCall, cycleBreakingNodesKeepingCall, loopFree, noLoopCall}
-use Rattle.choice.specs.RefusedBy.{cycleBreakingNodesRefusals, cycleBreakingNodesKeepingRefusals, noLoopRefusals}
+use Rattle.choice.specs.Calls.{listing, cycleBroken, cycleBrokenKeeping, cycleBreakingNodesCall, cycleBreakingNodesKeepingCall, loopFree, noLoopCall, showing, loopFound, findLoopCall}
+use Rattle.choice.specs.RefusedBy.{cycleBreakingNodesRefusals, cycleBreakingNodesKeepingRefusals, noLoopRefusals, findLoopRefusals}
 use Rattle.choice.proofs.Kept.{sixteen-by}
 
 pub cycle-breaking-nodes-by : (b : List ℕ) (room workRoom : ℕ) → RefusedBy cycleBreakingNodesRefusals (cycleBreakingNodesCall b room workRoom)
@@ -29,3 +29,10 @@ unfolding loopFree
 no-loop-by b workRoom =
     let ns : List ℕ = noLoopRefusals in
     work-by ns refl _ workRoom _ (step-by _ _ (reads-by ns refl b) (λ s. step-by _ _ (unpaired-by ns refl (s .graph)) (λ g. answer-by _)))
+
+pub find-loop-by : (b : List ℕ) (room workRoom : ℕ) → RefusedBy findLoopRefusals (findLoopCall b room workRoom)
+unfolding showing loopFound
+find-loop-by b room workRoom =
+    let ns : List ℕ = findLoopRefusals in
+    work-by ns refl _ workRoom _
+    (step-by _ _ (reads-by ns refl b) (λ s. step-by _ _ (unpaired-by ns refl (s .graph)) (λ g. step-by _ _ (fit-by ns refl room _) (λ list. answer-by _))))

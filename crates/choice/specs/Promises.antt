@@ -2,8 +2,8 @@
 -- Assumes nothing.
 use mathlib.Core.Path.{_≡_}
 use mathlib.Core.Bool.{Bool}
-use mathlib.Core.List.{List, []}
-use mathlib.Core.Logic.{_↔_}
+use mathlib.Core.List.{List, [], _∷_}
+use mathlib.Core.Logic.{_⊎_, _↔_}
 use Prim.Native.Nat.{ℕ, zero, _+_, _≤_, _<_}
 use lib.Dec.{T}
 use lib.ListN.{length}
@@ -12,10 +12,12 @@ use Rattle.graph.specs.Graph.{Graph}
 use Rattle.graph.specs.Answer.{answered, Result}
 use Rattle.graph.specs.Versions.{StoredGraph, read}
 use Rattle.graph.specs.Calls.{idList}
-use Rattle.choice.specs.Arcs.{Arc, In, Leads, Set, has, Stable, Cycle, NoCycle}
+use Rattle.choice.specs.Arcs.{Arc, In, Leads, Set, has, size, Stable, Cycle, NoCycle}
 use Rattle.choice.specs.Choice.{Chosen, Ascends}
 use Rattle.choice.specs.Drawing.{arcs, vertexCount, chosen}
 use Rattle.choice.specs.Keeping.{chosenKeeping}
+use Rattle.choice.specs.Loop.{noneShown, Loop, since, loop, Lowest, Walks}
+use Rattle.choice.specs.Simple.{SimpleCycle}
 
 -- all arcs join vertices below n
 abbrev pub Bounded : List Arc → ℕ → Type 0
@@ -66,3 +68,32 @@ pub record KeepingOf (b list : List ℕ) (room : ℕ) (s : StoredGraph) (kept : 
   pub fits : length (c .bytes) ≤ room
   pub back : numbers (s .format .width) (c .a) (c .bytes) ≡ picked .ids
   pub spares : Spares kept (s .graph) picked
+
+-- the loop that is shown in a set C: where the walk starts, its visits and the vertex met again, by the rule; and what is answered of it, a directed cycle
+-- that passes no vertex twice
+pub record Shown (arcs : List Arc) (node : ℕ → Bool) (C : Set) (l : Loop) : Type 0 where
+  pub start : ℕ
+  pub visits : List ℕ
+  pub again : ℕ
+  pub from-lowest : Lowest C (λ v. T (node v)) start
+  pub by-rule : Walks arcs C (start ∷ []) start visits again
+  pub from-first : l .list ≡ since again visits
+  pub walk-long : l .steps ≡ length visits
+  pub simple : SimpleCycle arcs (l .list)
+  pub inside : (v : ℕ) → In v (l .list) → T (has C v)
+  pub at-least : length (l .list) ≤ l .steps
+  pub at-most : l .steps ≤ size C
+
+-- there is no directed cycle, and nothing is shown; or a loop is
+abbrev pub NoneOrShown : List Arc → (ℕ → Bool) → Set → Loop → Type 0
+NoneOrShown arcs node C l = (NoCycle arcs × (l ≡ noneShown)) ⊎ Shown arcs node C l
+
+-- the answer is the loop of the stored graph, and its bytes are read back as that
+pub record LoopOf (b : List ℕ) (room : ℕ) (s : StoredGraph) (c : Result) : Type 0 where
+  pub stored : read b ≡ answered s
+  pub pairless : length (s .graph .pairs) ≡ zero
+  pub written : c .bytes ≡ row (s .format .width) (loop (s .graph) .list)
+  pub count : c .a ≡ length (loop (s .graph) .list)
+  pub steps : c .b ≡ loop (s .graph) .steps
+  pub fits : length (c .bytes) ≤ room
+  pub back : numbers (s .format .width) (c .a) (c .bytes) ≡ loop (s .graph) .list

@@ -215,7 +215,7 @@ pub fn make_queue(room: &mut [u8], nodes: usize, n: usize, kept: usize) -> usize
 }
 
 // The incidence graph of the stored drawing, and all that may go freely at first gone; answered is how many vertices that are.
-fn first_removal(room: &mut [u8], src: &[u8], z: Sizes) -> usize
+pub fn first_removal(room: &mut [u8], src: &[u8], z: Sizes) -> usize
     requires { ⌜ roomRemoval ≤ length (now room) ⌝ }
     requires { ⌜ Stored (now src) z ⌝ }
     ensures { λ r. ⌜ First (source (now (src .entry)) (bodyOf z)) (graphOf (now (src .entry))) (words (now (room .exit))) (z .nodes) (z .nodes + z .edges) r ⌝ }
