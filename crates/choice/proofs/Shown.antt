@@ -32,36 +32,24 @@ module _ (arcs : List Arc) (node : ℕ → Bool) (C : Set) where
   unfolding loopIn
   loop-some k e = rw (e, loopIn)
 
+-- a stable set C that is not empty and has a node
+module _ (arcs : List Arc) (node : ℕ → Bool) (C : Set) (s : Stable arcs C) (u : ℕ) (t : T (has C u)) (m : T (node u)) (k : ℕ) (e : size C ≡ suc k) where
   abbrev first : ℕ
   first = lowest (passing node C)
 
-  pub loop-shown : Stable arcs C → (u : ℕ) → T (has C u) → T (node u) → (k : ℕ) → size C ≡ suc k → Shown arcs node C (loopIn arcs node C)
-  loop-shown s u t m k e = subst (Shown arcs node C) (sym (loop-some k e)) (record {
-    start = first;
-    visits = xs;
-    again = w;
-    from-lowest = l;
-    by-rule = r;
-    from-first = refl;
-    walk-long = refl;
-    simple = record { cycle = closed; once = since-once w xs (walks-once arcs C r (List·Memᴰ·head refl) .0) };
-    inside = λ v i. walks-inside arcs C r (l .inside) v (since-in w xs v i);
-    at-least = since-length w xs;
-    at-most = omega (arith, step-length arcs C k (without first C) first);
-  })
+  abbrev xs : List ℕ
+  xs = walkFrom k arcs node C .visits
+
+  abbrev w : ℕ
+  w = walkFrom k arcs node C .again
+
+  pub first-lowest : Lowest C (λ v. T (node v)) (lowest (passing node C))
+  first-lowest = lowest-passing node C u t m
+
+  -- the walk that is computed goes by the rule
+  pub walk-by-rule : let x : ℕ = lowest (passing node C) in Walks arcs C (x ∷ []) x (walkFrom k arcs node C .visits) (walkFrom k arcs node C .again)
+  walk-by-rule = step-walks arcs C s k (without first C) (first ∷ []) first (first-lowest .inside) (omega (arith, size-without first C (first-lowest .inside))) unseen
     where
-      xs : List ℕ
-      xs = walkFrom k arcs node C .visits
-
-      w : ℕ
-      w = walkFrom k arcs node C .again
-
-      l : Lowest C (λ v. T (node v)) first
-      l = lowest-passing node C u t m
-
-      left : size (without first C) ≤ k
-      left = omega (arith, size-without first C (l .inside))
-
       unseen : Unseen arcs C s (without first C) (first ∷ [])
       unseen = record { either = λ v i. go v i (ℕ-discrete v first); apart = λ v i n. off v i (List·Memᴰ·cases-cons n) }
         where
@@ -73,22 +61,49 @@ module _ (arcs : List Arc) (node : ℕ → Bool) (C : Set) where
           off v i (inl q) = gone first C (subst (λ (x : ℕ). T (has (without first C) x)) q i)
           off v i (inr n) = List·Memᴰ·not-nil n
 
-      r : Walks arcs C (first ∷ []) first xs w
-      r = step-walks arcs C s k (without first C) (first ∷ []) first (l .inside) left unseen
+  walk-walk : (ys : List ℕ) × (xs ≡ first ∷ ys) × Walk arcs first ys w
+  walk-walk = walks-walk arcs C walk-by-rule
 
-      p : (ys : List ℕ) × (xs ≡ first ∷ ys) × Walk arcs first ys w
-      p = walks-walk arcs C r
-
-      back : In w (first ∷ []) ⊎ In w xs → In w (first ∷ p .0)
-      back (inl i) = go (List·Memᴰ·cases-cons i)
+  -- the vertex met again is one of those visited
+  pub again-visited : In (walkFrom k arcs node C .again) (walkFrom k arcs node C .visits)
+  again-visited = back (walks-again arcs C walk-by-rule)
+    where
+      back : In w (first ∷ []) ⊎ In w xs → In w xs
+      back (inl i) = subst (In w) (sym (walk-walk .1)) (go (List·Memᴰ·cases-cons i))
         where
-          go : (w ≡ first) ⊎ In w [] → In w (first ∷ p .0)
+          go : (w ≡ first) ⊎ In w [] → In w (first ∷ walk-walk .0)
           go (inl q) = List·Memᴰ·head q
           go (inr n) = absurd (List·Memᴰ·not-nil n)
-      back (inr i) = subst (In w) (p .1) i
+      back (inr i) = i
 
+  pub visits-once : Distinct (walkFrom k arcs node C .visits)
+  visits-once = walks-once arcs C walk-by-rule (List·Memᴰ·head refl) .0
+
+  pub visits-inside : (v : ℕ) → In v (walkFrom k arcs node C .visits) → T (has C v)
+  visits-inside = walks-inside arcs C walk-by-rule (first-lowest .inside)
+
+  pub visits-few : length (walkFrom k arcs node C .visits) ≤ size C
+  visits-few = omega (arith, step-length arcs C k (without first C) first)
+
+  pub loop-shown : Shown arcs node C (loopIn arcs node C)
+  loop-shown = subst (Shown arcs node C) (sym (loop-some arcs node C k e)) (record {
+    start = first;
+    visits = xs;
+    again = w;
+    from-lowest = first-lowest;
+    by-rule = walk-by-rule;
+    from-first = refl;
+    walk-long = refl;
+    simple = record { cycle = closed; once = since-once w xs visits-once };
+    inside = λ v i. visits-inside v (since-in w xs v i);
+    at-least = since-length w xs;
+    at-most = visits-few;
+  })
+    where
       closed : Cycle arcs (since w xs)
-      closed = subst (λ (zs : List ℕ). Cycle arcs (since w zs)) (sym (p .1)) (since-cycle arcs first (p .0) w (p .2) (back (walks-again arcs C r)))
+      closed =
+          let p = walk-walk in
+          subst (λ (zs : List ℕ). Cycle arcs (since w zs)) (sym (p .1)) (since-cycle arcs first (p .0) w (p .2) (subst (In w) (p .1) again-visited))
 
 -- ---- of a graph
 
