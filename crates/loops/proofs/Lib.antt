@@ -1,0 +1,4 @@
+pub mod Next
+pub mod Steps
+pub mod Laying
+pub mod Calls
