@@ -2,3 +2,4 @@ pub mod Next
 pub mod Steps
 pub mod Laying
 pub mod Calls
+pub mod Show

@@ -232,6 +232,10 @@ module _ {s : Source} {W F : List ℕ} {v k left : ℕ} (a : AtEdge s W F v k le
 
 -- ---- the start
 
+pub left-few : {s : Source} {W : List ℕ} {nodes left : ℕ} (a : Starting s W nodes left) → left ≤ mostVertices
+unfolding size
+left-few a = omega (arith, howMany-length (λ b. b) (a .core), a .left-is, a .told .long, a .told .few)
+
 module _ {s : Source} {W : List ℕ} {nodes left : ℕ} (a : Starting s W nodes left) (v : ℕ) (f : FirstLive W nodes v) where
   live-of : (u : ℕ) → T (has (a .core) u) → getD W (2 * u) 0 ≢ 0
   live-of u t z =
@@ -264,10 +268,6 @@ module _ {s : Source} {W : List ℕ} {nodes left : ℕ} (a : Starting s W nodes 
       lowest-only (a .core) (λ x. T (ltb x nodes)) v _ start-lowest
       (first-lowest (a .arcs) (λ x. ltb x nodes) (a .core) (a .told .stable) (u .0) (u .1) (lt→ltb (u .0) nodes (u .2)) (left - 1) k)
 
-  pub few-left : left ≤ mostVertices
-  unfolding size
-  few-left = omega (arith, howMany-length (λ b. b) (a .core), a .left-is, a .told .long, a .told .few)
-
   pub none-seen : unseen (a .core) (replicate mostVertices 0) ≡ a .core
   none-seen = unseen-none (a .core) mostVertices
 
@@ -283,7 +283,7 @@ module _ {s : Source} {W : List ℕ} {nodes left : ℕ} (a : Starting s W nodes 
       marks = length-replicate {A = ℕ} mostVertices 0;
       fresh = getD-replicate {A = ℕ} mostVertices v 0 0 (omega (arith, core-low s W nodes (a .n) (a .arcs) (a .core) (a .told) v (start-lowest .inside), a .told .few));
       left-is = ap (λ (R : Set). size (without v R)) none-seen ∙ omega (arith, size-without v (a .core) (start-lowest .inside), a .left-is);
-      few = omega (arith, few-left, a .some-left);
+      few = omega (arith, left-few a, a .some-left);
     };
     is-node = ltb→lt v nodes (start-lowest .passes);
   }
