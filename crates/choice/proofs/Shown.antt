@@ -21,7 +21,7 @@ use Rattle.choice.proofs.Sets.{has-lt, gone, stays, size-empty, size-so
 use Rattle.choice.proofs.Core.{length-core, core-stable, peels-to-core, peels-taken}
 use Rattle.choice.proofs.Fits.{proper-bounded, proper-offers}
 use Rattle.choice.proofs.Demand3.{core-empty-iff-no-cycle}
-use Rattle.choice.proofs.Walks.{lowest-passing, since-length, since-in, since-once, since-cycle, walks-walk, walks-again, walks-once, walks-inside, step-length, step-walks, Unseen}
+use Rattle.choice.proofs.Walks.{lowest-passing, lowest-only, walks-only, since-length, since-in, since-once, since-cycle, walks-walk, walks-again, walks-once, walks-inside, step-length, step-walks, Unseen}
 
 module _ (arcs : List Arc) (node : ℕ → Bool) (C : Set) where
   pub loop-none : size C ≡ zero → loopIn arcs node C ≡ noneShown
@@ -149,6 +149,18 @@ module _ (g : Graph) (proper : Proper g) where
       go : Either → (length (loop g .list) ≤ loop g .steps) × (loop g .steps ≤ vertexCount g)
       go (inl m) = rw (m .1) (le-refl zero, omega arith)
       go (inr s) = (s .at-least, omega (arith, s .at-most, small))
+
+  -- the rule allows one walk, and it gives the loop that is shown
+  pub every-walk-gives-loop : (start : ℕ) (visits : List ℕ) (again : ℕ) → Lowest (firstCore g) (λ v. T (selectable g v)) start → Walks (arcs g) (firstCore g) (start ∷ []) start visits again
+      → (loop g .list ≡ since again visits) × (loop g .steps ≡ length visits)
+  every-walk-gives-loop start visits again l w = go none-or-shown
+    where
+      go : Either → (loop g .list ≡ since again visits) × (loop g .steps ≡ length visits)
+      go (inl n) = absurd (core-empty-iff-no-cycle (arcs g) (vertexCount g) (proper-bounded g proper) .1 (n .0) start (l .inside))
+      go (inr s) =
+          let e : start ≡ s .start = lowest-only (firstCore g) (λ v. T (selectable g v)) start (s .start) l (s .from-lowest) in
+          let h = walks-only (arcs g) (firstCore g) (s .by-rule) (start ∷ []) (λ i. e i ∷ []) start e w in
+          (s .from-first ∙ (λ i. since (h .1 i) (h .0 i)), s .walk-long ∙ ap length (h .0))
 
   -- no vertex is listed twice
   pub shown-once : Distinct (loop g .list)

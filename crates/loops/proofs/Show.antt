@@ -182,7 +182,7 @@ module _ (s : Source) (W : List ℕ) (nodes left : ℕ) (a : Starting s W nodes 
   }
 
   -- laid, it is the loop that the walk closes
-  pub laid-shown : (X : List ℕ) (steps count : ℕ) → LaidIn X (w ∷ ring s W nodes left a .0) count → Closes 0 (walkFrom (left - 1) (a .arcs) (λ v. ltb v nodes) (a .core)) steps w
+  pub laid-shown : (X : List ℕ) (steps count : ℕ) → LaidIn X (w ∷ ring s W nodes left a .0) count → Closes 1 (walkFrom (left - 1) (a .arcs) (λ v. ltb v nodes) (a .core)) steps w
       → loopAs (part X waitingAt count) steps ≡ closedBy (walkFrom (left - 1) (a .arcs) (λ v. ltb v nodes) (a .core))
   laid-shown X steps count l c =
       let list : part X waitingAt count ≡ since (walkFrom (left - 1) (a .arcs) (λ v. ltb v nodes) (a .core) .again) (walkFrom (left - 1) (a .arcs) (λ v. ltb v nodes) (a .core) .visits) =

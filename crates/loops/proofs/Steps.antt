@@ -97,7 +97,7 @@ module _ (arcs : List Arc) (C R : Set) (v : ℕ) where
   unfolding edgeStep
   edge-goes k e = rw e
 
-closes-by : (k v e : ℕ) (w : Walked) → w ≡ closing v e → Closes k w (k + 1) e
+closes-by : (k v e : ℕ) (w : Walked) → w ≡ closing v e → Closes k w k e
 closes-by k v e w q = record { steps = ap (λ (x : Walked). k + length (x .visits)) (sym q); again = ap (λ (x : Walked). x .again) (sym q) }
 
 visits-by : (k v r a : ℕ) (w more : Walked) → w ≡ visiting v more → Closes (k + 1) more r a → Closes k w r a
@@ -163,12 +163,12 @@ module _ {s : Source} {W F : List ℕ} {v k left : ℕ} (a : At s W F v k left) 
       rest-next = ap (without e) marked
 
 pub node-met : {s : Source} {W F : List ℕ} {v k left : ℕ} (a : AtNode s W F v k left) (e : ℕ) → e ≡ nextIn s W (a .at .nodes) v → getD (set F v 1) e 0 ≢ 0
-    → Closes k (nodeStep left (a .at .arcs) (a .at .core) (rest (a .at)) v) (k + 1) e
+    → Closes k (nodeStep left (a .at .arcs) (a .at .core) (rest (a .at)) v) k e
 node-met {v = v} {k = k} {left = left} a e is n =
     closes-by k v e _ (node-closes (a .at .arcs) (a .at .core) (rest (a .at)) v left (met (a .at) e is n) ∙ ap (closing v) (sym (e-onward (a .at) e is)))
 
 pub edge-met : {s : Source} {W F : List ℕ} {v k left : ℕ} (a : AtEdge s W F v k left) (e : ℕ) → e ≡ nextIn s W (a .at .nodes) v → getD (set F v 1) e 0 ≢ 0
-    → Closes k (edgeStep left (a .at .arcs) (a .at .core) (rest (a .at)) v) (k + 1) e
+    → Closes k (edgeStep left (a .at .arcs) (a .at .core) (rest (a .at)) v) k e
 edge-met {v = v} {k = k} {left = left} a e is n =
     closes-by k v e _ (edge-closes (a .at .arcs) (a .at .core) (rest (a .at)) v left (met (a .at) e is n) ∙ ap (closing v) (sym (e-onward (a .at) e is)))
 
@@ -271,7 +271,7 @@ module _ {s : Source} {W : List ℕ} {nodes left : ℕ} (a : Starting s W nodes 
   pub none-seen : unseen (a .core) (replicate mostVertices 0) ≡ a .core
   none-seen = unseen-none (a .core) mostVertices
 
-  abbrev pub startAt : AtNode s W (replicate mostVertices 0) v 0 (left - 1)
+  abbrev pub startAt : AtNode s W (replicate mostVertices 0) v 1 (left - 1)
   startAt = record {
     at = record {
       nodes = nodes;
@@ -288,9 +288,9 @@ module _ {s : Source} {W : List ℕ} {nodes left : ℕ} (a : Starting s W nodes 
     is-node = ltb→lt v nodes (start-lowest .passes);
   }
 
-  pub start-walk : (r w : ℕ) → Closes 0 (nodeStep (left - 1) (a .arcs) (a .core) (rest (startAt .at)) v) r w
-      → Closes 0 (walkFrom (left - 1) (a .arcs) (λ u. ltb u nodes) (a .core)) r w
+  pub start-walk : (r w : ℕ) → Closes 1 (nodeStep (left - 1) (a .arcs) (a .core) (rest (startAt .at)) v) r w
+      → Closes 1 (walkFrom (left - 1) (a .arcs) (λ u. ltb u nodes) (a .core)) r w
   start-walk r w =
-      subst (λ (x : Walked). Closes 0 x r w)
+      subst (λ (x : Walked). Closes 1 x r w)
       (ap (λ (S : Set). nodeStep (left - 1) (a .arcs) (a .core) (without v S) v) none-seen
       ∙ ap (λ (x : ℕ). nodeStep (left - 1) (a .arcs) (a .core) (without x (a .core)) x) start-is)

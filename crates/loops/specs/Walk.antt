@@ -60,7 +60,7 @@ pub record FirstLive (W : List ℕ) (nodes r : ℕ) : Type 0 where
 abbrev pub unseen : Set → List ℕ → Set
 unseen C F = passing (λ v. eqb (getD F v 0) 0) C
 
--- v of the core is visited next, after k others: `left` are unvisited then
+-- v of the core is visited as the k-th: `left` are unvisited then
 pub record At (s : Source) (W F : List ℕ) (v k left : ℕ) : Type 0 where
   pub nodes : ℕ
   pub n : ℕ
@@ -71,7 +71,7 @@ pub record At (s : Source) (W F : List ℕ) (v k left : ℕ) : Type 0 where
   pub marks : length F ≡ mostVertices
   pub fresh : getD F v 0 ≡ 0
   pub left-is : size (without v (unseen core F)) ≡ left
-  pub few : k + left < mostVertices
+  pub few : k + left ≤ mostVertices
 
 -- and v is a node
 pub record AtNode (s : Source) (W F : List ℕ) (v k left : ℕ) : Type 0 where
@@ -87,9 +87,9 @@ pub record AtEdge (s : Source) (W F : List ℕ) (v k left : ℕ) : Type 0 where
 abbrev pub rest : {s : Source} {W F : List ℕ} {v k left : ℕ} → At s W F v k left → Set
 rest {F = F} {v = v} a = without v (unseen (a .core) F)
 
--- in all r steps were taken, k of them before this walk, and w was met again
+-- in all r steps were taken, this walk's first vertex being visited as the k-th, and w was met again
 pub record Closes (k : ℕ) (walk : Walked) (r w : ℕ) : Type 0 where
-  pub steps : r ≡ k + length (walk .visits)
+  pub steps : r + 1 ≡ k + length (walk .visits)
   pub again : w ≡ walk .again
 
 -- nothing is visited yet, and `left` are to be

@@ -89,7 +89,7 @@ fn lowest_target(room: &[u8], s: &[u8], r: Row, e: usize) -> usize
     lowest_formed(room, s, r, start, count)
 }
 
-// From node v, which is visited now, after k others: so many vertices are unvisited then. Answered are the steps in all.
+// From node v, which is visited as the k-th: so many vertices are unvisited then. Answered are the steps in all; a vertex is left by one step.
 fn node_step(
     room: &&[u8],
     s: &&[u8],
@@ -110,7 +110,7 @@ fn node_step(
     let e = lowest_edge(*room, v);
     if seen[e] != 0 {
         *again = e;
-        return k + 1;
+        return k;
     }
     edge_step(room, s, at, width, seen, again, e, k + 1, left - 1)
 }
@@ -136,7 +136,7 @@ fn edge_step(
     let v = lowest_target(*room, *s, Row { at, width }, e);
     if seen[v] != 0 {
         *again = v;
-        return k + 1;
+        return k;
     }
     node_step(room, s, at, width, seen, again, v, k + 1, left - 1)
 }
@@ -167,14 +167,14 @@ fn walk(room: &[u8], s: &[u8], r: Row, nodes: usize, left: usize) -> Closed
     requires { ⌜ roomRemoval ≤ length (now room) ⌝ }
     requires { ⌜ Starting (source (now s) r) (words (now room)) nodes left ⌝ }
     ensures { λ c. ⌜ ((u : Starting (source (now (s .entry)) r) (words (now (room .entry))) nodes left)
-        → Closes 0 (walkFrom (left - 1) (u .arcs) (λ v. ltb v nodes) (u .core)) (c .steps) (c .again)) ⌝ }
+        → Closes 1 (walkFrom (left - 1) (u .arcs) (λ v. ltb v nodes) (u .core)) (c .steps) (c .again)) ⌝ }
 {
     let mut seen = [0u8; tables::VERTICES];
     let mut again: usize = 0;
     let v = lowest_node(room, nodes);
     let at = r.at;
     let width = r.width;
-    let steps = node_step(&room, &s, at, width, &mut seen, &mut again, v, 0, left - 1);
+    let steps = node_step(&room, &s, at, width, &mut seen, &mut again, v, 1, left - 1);
     Closed { steps, again }
 }
 

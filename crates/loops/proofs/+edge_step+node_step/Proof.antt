@@ -89,14 +89,6 @@ edge-step-element-copy-out-if1 t c =
     let u = c .before .before .before .pre .1 .1 in
     next-low (u .at) (c .lowest-target .result) (edge-step-next t c u)
 
-edge-step-add-result : (t : ℕ) → edge-step-lts.Need-add-result (
-  lowest-target-reads.Asked,
-  lowest-target-reads.Learnt,
-  node-step-below t,
-  node-step.Post,
-) (edge-step-at t) edge-step.Post
-edge-step-add-result t c = omega (arith, c .before .before .before .before .before .pre .1 .1 .at .few)
-
 edge-step-returns : (t : ℕ) → edge-step-lts.Need-returns (
   lowest-target-reads.Asked,
   lowest-target-reads.Learnt,
@@ -179,14 +171,6 @@ node-step-element-copy-out-if1 t c =
     let u = c .before .before .pre .1 .1 in
     next-low (u .at) (c .lowest-edge .result) (node-step-next t c u)
 
-node-step-add-result : (t : ℕ) → node-step-lts.Need-add-result (
-  lowest-edge-reads.Asked,
-  lowest-edge-reads.Learnt,
-  edge-step-below t,
-  edge-step.Post,
-) (node-step-at t) node-step.Post
-node-step-add-result t c = omega (arith, c .before .before .before .before .pre .1 .1 .at .few)
-
 node-step-returns : (t : ℕ) → node-step-lts.Need-returns (
   lowest-edge-reads.Asked,
   lowest-edge-reads.Learnt,
@@ -252,7 +236,6 @@ pub +edge-step+node-step-spec : {M : Type 1} → statement M
     (edge-step-element-write-seen t)
     (edge-step-lowest-target-requires t)
     (edge-step-element-copy-out-if1 t)
-    (edge-step-add-result t)
     (edge-step-returns t)
     (edge-step-add-node-step t)
     (edge-step-sub-node-step t)
@@ -265,7 +248,6 @@ pub +edge-step+node-step-spec : {M : Type 1} → statement M
     (node-step-element-write-seen t)
     (node-step-lowest-edge-requires t)
     (node-step-element-copy-out-if1 t)
-    (node-step-add-result t)
     (node-step-returns t)
     (node-step-add-edge-step t)
     (node-step-sub-edge-step t)

@@ -34,12 +34,12 @@ first s =
 
 -- what it came to
 closed : (c : tie.After-walk) → let s = c .before .before .before .before .before .before in let a = s .args in
-    Closes 0 (walkFrom (a .left - 1) (first s .arcs) (λ v. ltb v (a .z .nodes)) (first s .core)) (c .walk .result .steps) (c .walk .result .again)
+    Closes 1 (walkFrom (a .left - 1) (first s .arcs) (λ v. ltb v (a .z .nodes)) (first s .core)) (c .walk .result .steps) (c .walk .result .again)
 closed c =
     let s = c .before .before .before .before .before .before in
     let a = s .args in
     let o = c .walk in
-    subst (λ (r : Row). (u : Starting (source (now (a .src)) r) (words (now (a .room))) (a .z .nodes) (a .left)) → Closes 0 (walkFrom (a .left - 1) (u .arcs) (λ v. ltb v (a .z .nodes)) (u .core)) (o .result .steps) (o .result .again))
+    subst (λ (r : Row). (u : Starting (source (now (a .src)) r) (words (now (a .room))) (a .z .nodes) (a .left)) → Closes 1 (walkFrom (a .left - 1) (u .arcs) (λ v. ltb v (a .z .nodes)) (u .core)) (o .result .steps) (o .result .again))
     (c .before .before .body-row .ensures) (o .ensures) (first s)
 
 -- the loop, laid
