@@ -2,7 +2,7 @@
 -- Assumes nothing.
 use mathlib.Core.Path.{_≡_, refl, sym, ap, _∙_, subst}
 use mathlib.Core.Bool.{Bool, true, false, cond, true≢false}
-use mathlib.Core.List.{List, _++_}
+use mathlib.Core.List.{List, [], _++_}
 use mathlib.Core.Logic.{_⊎_, inl, inr, _↔_}
 use Prim.Native.Nat.{ℕ, _*_, _^_, _/_, _%_, _≤_, min}
 use native.Mathlib.Omega.{arith}
@@ -25,21 +25,26 @@ use Rattle.graph.proofs.Steps.{same-answer, passed, came}
 use Rattle.graph.proofs.Versions.{version-known, fitting-formed, read-sound}
 use Rattle.choice.specs.Arcs.{In, vertices, NoCycle}
 use Rattle.choice.specs.Choice.{Chooses}
-use Rattle.choice.specs.Calls.{roomCycleBreakingNodes, cycleBreakingNodesCall, cycleBreakingNodesKeepingCall, noLoopCall}
+use Rattle.choice.specs.Calls.{roomCycleBreakingNodes, cycleBreakingNodesCall, cycleBreakingNodesKeepingCall, noLoopCall, findLoopCall}
 use Rattle.choice.specs.Drawing.{arcs, vertexCount, selectable, chosen, noLoop}
 use Rattle.choice.specs.Keeping.{unkept, chosenKeeping, KeptCycle}
-use Rattle.choice.specs.Promises.{Breaks, CutOf, Spares, Admitted, KeepingOf}
+use Rattle.choice.specs.Loop.{Loop, firstCore, loop}
+use Rattle.choice.specs.Promises.{Breaks, CutOf, Spares, Admitted, KeepingOf, NoneOrShown}
+use Rattle.choice.specs.Simple.{SimpleCycle}
 use Rattle.choice.proofs.Demand3.{same-runs}
 use Rattle.choice.proofs.Graphs.{every-run-gives-chosen, some-run-gives-chosen, chosen-breaks, chosen-and-free-are-all}
 use Rattle.choice.proofs.Kept.{answer-iff-run, answered-spares}
 use Rattle.choice.proofs.KeptStored.{keeping-answer, sixteen-iff-kept-cycle, sixteen-means}
+use Rattle.choice.proofs.Fits.{all-below}
 use Rattle.choice.proofs.Loops.{no-loop-iff-cycle}
+use Rattle.choice.proofs.Shown.{none-or-shown, shown-empty-iff-no-cycle, steps-bounds, every-walk-gives-loop, shown-below}
+use Rattle.choice.proofs.ShownStored.{shown-fits, find-loop-answer}
 use Rattle.choice.proofs.Spiderized.{chosen-spiderized-no-cycle, keeping-spiderized-no-cycle, spiderized-choice-answer, spiderized-keeping-answer}
 use Rattle.choice.proofs.Stored.{cycle-breaking-nodes-answer, no-loop-answer}
 use Rattle.ohg.specs.Packed.{packed, Returns, Ranged}
 use Rattle.ohg.specs.Unpacked.{codeIn, aIn, bIn}
-use Rattle.ohg.specs.Caller.{widthIn, listBytes, listed, Draws, ToldChoice, idsGiven, Keepable, ToldKeeping, ToldKeptCycle, ToldSpiderized, ToldNoLoop}
-use Rattle.ohg.proofs.Ranges.{cycle-breaking-nodes-ranged, cycle-breaking-nodes-keeping-ranged, spiderize-nodes-ranged, no-loop-ranged}
+use Rattle.ohg.specs.Caller.{widthIn, listBytes, listed, Draws, ToldChoice, idsGiven, Keepable, ToldKeeping, ToldKeptCycle, ToldSpiderized, ToldNoLoop, ToldLoop}
+use Rattle.ohg.proofs.Ranges.{cycle-breaking-nodes-ranged, cycle-breaking-nodes-keeping-ranged, spiderize-nodes-ranged, no-loop-ranged, find-loop-ranged}
 use Rattle.ohg.proofs.Unpacked.{code-of-packed, a-of-packed, b-of-packed}
 
 -- ---- a code of 0 is an answer, and a and b are its numbers
@@ -400,5 +405,49 @@ no-loop-for-the-caller b t lent r e code =
         drawing = draws b t s (x .1);
         says-yes = (λ q. x .3 .0 (sym a ∙ q), λ n. a ∙ x .3 .1 n);
         says-no = (λ q. loops .0 (no .0 (sym said ∙ q)), λ c. said ∙ no .1 (loops .1 c));
+      },
+    )
+
+-- ---- the loop that is shown
+
+-- nothing is shown, or a directed cycle that passes no vertex twice
+shown-cycle : (g : Graph) → NoneOrShown (arcs g) (selectable g) (firstCore g) (loop g) → (loop g .list ≡ []) ⊎ SimpleCycle (arcs g) (loop g .list)
+shown-cycle g (inl m) = inl (ap (λ (l : Loop). l .list) (m .1))
+shown-cycle g (inr s) = inr (s .simple)
+
+-- it, from what the caller holds
+pub loop-for-the-caller : (b : List ℕ) → Below 256 b → (old new : List ℕ) (lent r : ℕ) → Returns (findLoopCall b (length old) lent) r old new → codeIn r ≡ 0
+    → (g : Graph) × ToldLoop b r old new g
+loop-for-the-caller b t old new lent r h code =
+    let p = answer-of (findLoopCall b (length old) lent) (find-loop-ranged b t (length old) lent) (h .number) code in
+    let c = p .0 in
+    let found = find-loop-answer b t (length old) lent c (p .1) in
+    let s = found .0 in
+    let k = found .1 in
+    let g = s .graph in
+    let w = s .format .width in
+    let list = loop g .list in
+    let rest = drop (length (c .bytes)) old in
+    let proper = read-sound b s t (k .stored) .formed .proper in
+    let wide : widthIn b ≡ w = width-read b s (k .stored) in
+    let many : aIn r ≡ length list = p .2 ∙ k .count in
+    let steps : bIn r ≡ loop g .steps = p .3 ∙ k .steps in
+    let buffer : new ≡ c .bytes ++ rest = h .buffer ∙ ap (λ a. laid a old) (p .1) in
+    let bytes : new ≡ row w list ++ rest = buffer ∙ ap (λ l. l ++ rest) (k .written) in
+    let ids : listed b r new ≡ list = (λ i. numbers (wide i) (many i) (bytes i)) ∙ numbers-row w list rest (shown-fits b t s (k .stored)) in
+    let long : length (c .bytes) ≡ listBytes b r = ap length (k .written) ∙ length-row w list ∙ (λ i. sym many i * sym wide i) in
+    let few = steps-bounds g proper in (
+      g,
+      record {
+        drawing = draws b t s (k .stored);
+        pairless = k .pairless;
+        none = subst (λ (l : List ℕ). (l ≡ []) ↔ NoCycle (arcs g)) (sym ids) (shown-empty-iff-no-cycle g proper);
+        cycle = subst (λ (l : List ℕ). (l ≡ []) ⊎ SimpleCycle (arcs g) l) (sym ids) (shown-cycle g (none-or-shown g proper));
+        vertices = subst (Below (vertexCount g)) (sym ids) (all-below (vertexCount g) list (shown-below g proper));
+        every-walk = λ start visits again l v. let e = every-walk-gives-loop g proper start visits again l v in (ids ∙ e .0, steps ∙ e .1);
+        some-walk = subst (NoneOrShown (arcs g) (selectable g) (firstCore g)) (λ i. record { list = sym ids i; steps = sym steps i }) (none-or-shown g proper);
+        few = (omega (arith, many, steps, few .0), omega (arith, steps, few .1));
+        fits = subst (λ (n : ℕ). n ≤ length old) long (k .fits);
+        stays = kept (c .bytes) old new (listBytes b r) buffer long;
       },
     )

@@ -1,12 +1,12 @@
--- What a caller of the choice, with kept nodes and without, of spiderizing its list and of the no-loop check may rely on where the code is 0: promises about the returned number
+-- What a caller of the choice, with kept nodes and without, of spiderizing its list, of the no-loop check and of the loop that is shown may rely on where the code is 0: promises about the returned number
 -- and the bytes of the lent buffers alone, one field for each; and where the code is 16. `codeIn`, `aIn` and `bIn` take the number apart.
 -- Assumes nothing.
 use mathlib.Core.Path.{_≡_}
 use mathlib.Core.Bool.{cond}
-use mathlib.Core.List.{List, []}
-use mathlib.Core.Logic.{_↔_}
+use mathlib.Core.List.{List, [], _∷_}
+use mathlib.Core.Logic.{_⊎_, _↔_}
 use Prim.Native.Nat.{ℕ, _+_, _*_, _/_, _%_, _≤_}
-use lib.Dec.{eqb}
+use lib.Dec.{T, eqb}
 use lib.ListN.{length, take, drop}
 use Rattle.le.specs.Le.{Below, numberAt, numbers}
 use Rattle.graph.specs.Answer.{answered}
@@ -18,6 +18,9 @@ use Rattle.choice.specs.Arcs.{In, vertices, Cycle, NoCycle}
 use Rattle.choice.specs.Choice.{Chooses, Ascends}
 use Rattle.choice.specs.Drawing.{arcs, vertexCount, selectable}
 use Rattle.choice.specs.Keeping.{unkept, KeptCycle}
+use Rattle.choice.specs.Loop.{firstCore, since, Lowest, Walks}
+use Rattle.choice.specs.Promises.{NoneOrShown}
+use Rattle.choice.specs.Simple.{SimpleCycle}
 use Rattle.ohg.specs.Unpacked.{aIn, bIn}
 
 -- the bytes of an id in the lists of a call on these bytes, as ohg_width of the header tells them: 4 where the version is 2, else 2
@@ -138,3 +141,27 @@ pub record ToldNoLoop (b : List ℕ) (r : ℕ) (g : Graph) : Type 0 where
   pub says-yes : (aIn r ≡ 1) ↔ NoCycle (arcs g)
   -- and 0 exactly if it has one
   pub says-no : (aIn r ≡ 0) ↔ ((c : List ℕ) × Cycle (arcs g) c)
+
+-- ohg_find_loop on the bytes b returned r, and its list buffer was old and is new
+pub record ToldLoop (b : List ℕ) (r : ℕ) (old new : List ℕ) (g : Graph) : Type 0 where
+  -- the bytes are this graph
+  pub drawing : Draws b g
+  -- which has no pending pair
+  pub pairless : length (g .pairs) ≡ 0
+  -- no vertex is listed exactly if no directed cycle exists
+  pub none : (listed b r new ≡ []) ↔ NoCycle (arcs g)
+  -- and else the listed vertices are a directed cycle along the graph's arcs, in its order, that passes none twice
+  pub cycle : (listed b r new ≡ []) ⊎ SimpleCycle (arcs g) (listed b r new)
+  -- each is a node or an edge, edges numbered on after the nodes
+  pub vertices : Below (length (g .labels) + length (g .edges)) (listed b r new)
+  -- the walk that the rule allows, from the lowest node of the first core: b is its length, and the list is what it visits from the first visit of the
+  -- vertex met again on
+  pub every-walk : (start : ℕ) (visits : List ℕ) (again : ℕ) → Lowest (firstCore g) (λ v. T (selectable g v)) start → Walks (arcs g) (firstCore g) (start ∷ []) start visits again
+      → (listed b r new ≡ since again visits) × (bIn r ≡ length visits)
+  -- and there is such a walk, unless there is no directed cycle and no step
+  pub some-walk : NoneOrShown (arcs g) (selectable g) (firstCore g) (record { list = listed b r new; steps = bIn r })
+  -- no more are listed than steps were taken, and no more steps than there are nodes and edges
+  pub few : (aIn r ≤ bIn r) × (bIn r ≤ length (g .labels) + length (g .edges))
+  -- the list is wholly in the buffer, and what was behind it stays
+  pub fits : listBytes b r ≤ length old
+  pub stays : drop (listBytes b r) new ≡ drop (listBytes b r) old

@@ -3,7 +3,7 @@ ghost use mathlib.Core.Path.{_≡_};
 ghost use lib.ListN.{length};
 ghost use Prim.Native.Nat.{min};
 ghost use Rattle.graph.specs.Calls.{readCall, rewriteCall, emptyCall, discreteCall, identityCall, singletonCall, newNodeCall, newEdgeCall, newOperationCall, unifyCall, addEdgeSourceCall, addEdgeTargetCall, deleteEdgesCall, deleteNodesCall, quotientCall, spiderizeCall, spiderizeNodesCall, onceFedCall};
-ghost use Rattle.choice.specs.Calls.{cycleBreakingNodesCall, cycleBreakingNodesKeepingCall, noLoopCall};
+ghost use Rattle.choice.specs.Calls.{cycleBreakingNodesCall, cycleBreakingNodesKeepingCall, noLoopCall, findLoopCall};
 ghost use Rattle.ohg.specs.Packed.{packed, Returns, ReturnsMap, packedOutcome, Packs};
 use form::Outcome;
 
@@ -234,6 +234,15 @@ pub extern "C" fn ohg_no_loop(src: &[u8], room: &mut [u8]) -> u64
     ensures { λ r. ⌜ r ≡ packed (noLoopCall (now (src .entry)) (length (now (room .entry)))) ⌝ }
 {
     let x = cycle::no_loop(src, room);
+    pack(x)
+}
+
+// A directed cycle, if there is one: its nodes and edges in their order, and how many steps the walk took that found it.
+#[no_mangle]
+pub extern "C" fn ohg_find_loop(src: &[u8], list: &mut [u8], room: &mut [u8]) -> u64
+    ensures { λ r. ⌜ Returns (findLoopCall (now (src .entry)) (length (now (list .entry))) (length (now (room .entry)))) r (now (list .entry)) (now (list .exit)) ⌝ }
+{
+    let x = loops::find_loop(src, list, room);
     pack(x)
 }
 
