@@ -82,6 +82,10 @@ enum ohg_refusal {
 #define OHG_LIST_BYTES 65536
 #define OHG_LIST_BYTES_1 4096
 
+/* The most bytes of an answered loop, which has edges too: 4 for each of 32,768 nodes and edges, and 2 for each of 4,096. */
+#define OHG_LOOP_BYTES 131072
+#define OHG_LOOP_BYTES_1 8192
+
 /* The edge label that says spider. */
 #define OHG_SPIDER 4294967295u
 
@@ -102,6 +106,7 @@ static inline uint32_t ohg_width(const uint8_t *src, size_t src_len) {
 #define OHG_ROOM_SPIDERIZE_NODES 196608
 #define OHG_ROOM_CYCLE_BREAKING_NODES 1390016
 #define OHG_ROOM_CYCLE_BREAKING_NODES_KEEPING 1390016
+#define OHG_ROOM_FIND_LOOP 1190656
 #define OHG_ROOM_NO_LOOP 1190656
 #define OHG_ROOM_ONCE_FED 16384
 
@@ -205,6 +210,14 @@ uint64_t ohg_cycle_breaking_nodes(const uint8_t *src, size_t src_len, uint8_t *l
  * 10. */
 uint64_t ohg_cycle_breaking_nodes_keeping(const uint8_t *src, size_t src_len, const uint8_t *kept, size_t kept_len, uint8_t *list,
                                           size_t list_len, uint8_t *room, size_t room_len);
+
+/* Shows one directed cycle: `list` gets its vertices, each once, as wide as in `src`, in the order in which it passes them. They are nodes and
+ * edges by turns, and an edge is the node count and its id; the last leads to the first. Once all is removed that goes freely, a walk starts at
+ * the lowest node that is left, goes from a node to the lowest edge there that it enters and from an edge to its lowest target there, and ends
+ * where it meets a vertex again: the cycle is what it passed since it was there first.
+ * a: vertices in the list. b: steps of the walk, the last one included. Both are 0 exactly if there is no directed cycle. Room:
+ * OHG_ROOM_FIND_LOOP. Refusals: 10 (room), 1 to 6, 13, 8, 10. */
+uint64_t ohg_find_loop(const uint8_t *src, size_t src_len, uint8_t *list, size_t list_len, uint8_t *room, size_t room_len);
 
 /* Whether there is no directed cycle.
  * a: 1 yes, 0 no. b: 0. Room: OHG_ROOM_NO_LOOP. Refusals: 10 (room), 1 to 6, 13, 8. */
