@@ -1,4 +1,5 @@
-//! Document 01's choice by its stages, with the count of what is removed freely, and the no-loop check.
+//! Document 01's choice by its stages, with the count of what is removed freely, what the first of them leaves, and the no-loop
+//! check.
 
 use crate::convert::Graph;
 
@@ -43,6 +44,15 @@ pub fn choice_keeping(graph: &Graph, kept: &[bool]) -> Option<(Vec<usize>, usize
         chosen.push(best);
         rest.take(best);
     }
+}
+
+/// For each vertex of the first core the lowest there that an arc leads to from it; none for those outside of it.
+pub fn lowest_in_core(graph: &Graph) -> Vec<Option<usize>> {
+    let mut rest = Rest::of(graph);
+    rest.take_loose();
+    let lowest = |ends: &Vec<usize>| ends.iter().copied().filter(|&to| rest.left[to]).min();
+    let of = |vertex: usize| lowest(&rest.arcs.outgoing[vertex]).filter(|_| rest.left[vertex]);
+    (0..rest.left.len()).map(of).collect()
 }
 
 /// No directed cycle: every vertex can be taken away, each when no arc leads to it any more.

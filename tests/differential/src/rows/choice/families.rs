@@ -208,7 +208,7 @@ fn add_across(rng: &mut Rng, drawing: &mut Drawing) {
 }
 
 /// Numbers the nodes in another order, and the edges too.
-fn shuffle(rng: &mut Rng, drawing: &mut Drawing) {
+pub fn shuffle(rng: &mut Rng, drawing: &mut Drawing) {
     let mut new: Vec<u32> = (0..drawing.labels.len() as u32).collect();
     reorder(rng, &mut new);
     for edge in &mut drawing.edges {

@@ -1,8 +1,9 @@
-//! The choice of cycle-breaking nodes, without kept nodes and with them, and the no-loop check.
+//! The choice of cycle-breaking nodes, without kept nodes and with them, the search for a loop, and the no-loop check.
 
 pub mod definition;
 pub mod families;
 pub mod keeping;
+pub mod showing;
 
 use crate::arguments::graph_alone;
 use crate::call::{Answer, Arguments, Outcome};
@@ -53,6 +54,15 @@ const OPERATIONS: &[Operation] = &[
         picked: keeping::picked,
         arguments: keeping::graph_and_kept_list,
         expected: keeping::cycle_breaking_nodes_keeping,
+    },
+    Operation {
+        number: 22,
+        name: "ohg_find_loop",
+        parameters: &[Input, Answered, Room],
+        refusals: &[1, 2, 3, 4, 5, 6, 13, 8, 10],
+        picked: showing::picked,
+        arguments: graph_alone,
+        expected: showing::find_loop,
     },
 ];
 

@@ -1,5 +1,5 @@
-//! Calls one after the other, each on what the port answered before: merge, choose, with kept nodes too, spiderize what was
-//! chosen, and ask for loops, of which there must be none; and spiderize all, which must be as T-11 says, by both checks too, and spiderize it
+//! Calls one after the other, each on what the port answered before: merge, choose, with kept nodes too, show a loop, which must
+//! pass a chosen node, spiderize what was chosen, and ask for loops, of which there must be none; and spiderize all, which must be as T-11 says, by both checks too, and spiderize it
 //! again.
 
 use super::{explicit, GROUP};
@@ -9,6 +9,7 @@ use crate::classes;
 use crate::convert::{self, to_lax};
 use crate::form::{self, Refusal};
 use crate::run::{Amount, Run};
+use std::collections::HashSet;
 
 /// How large its part of a run's calls is, beside the groups' parts.
 pub const SHARE: u64 = 1;
@@ -20,6 +21,7 @@ const NO_LOOP: u8 = 17;
 const ONCE_FED: u8 = 18;
 const QUOTIENT: u8 = 19;
 const CYCLE_BREAKING_NODES_KEEPING: u8 = 20;
+const FIND_LOOP: u8 = 22;
 
 /// Follows the chains on the graphs that spiderizing is tried on, large and small, and on more by chance.
 pub fn follow(run: &mut Run, amount: Amount) {
@@ -52,6 +54,7 @@ fn choose_on(run: &mut Run, form: &[u8]) {
     let Some(chosen) = answered(run, CYCLE_BREAKING_NODES, graph) else {
         return;
     };
+    show_on(run, form, &chosen);
     break_on(run, form, &chosen);
     // Every other one of those that were chosen is kept, and others are chosen in their place where there are such.
     let width = form::width(form);
@@ -63,6 +66,18 @@ fn choose_on(run: &mut Run, form: &[u8]) {
     }
 }
 
+/// Shows a loop, of which a node was chosen.
+fn show_on(run: &mut Run, form: &[u8], chosen: &Answer) {
+    let graph = Arguments::new(&[], &[form]);
+    let Some(shown) = answered(run, FIND_LOOP, graph) else {
+        return;
+    };
+    let ids = |answer: &Answer| form::id_list(&answer.written[0], form::width(form));
+    let chosen: HashSet<_> = ids(chosen).into_iter().collect();
+    let passed = ids(&shown).iter().any(|id| chosen.contains(id));
+    assert_eq!(passed, !chosen.is_empty(), "a chosen node is on the loop");
+}
+
 /// Spiderizes what was chosen, and asks for loops.
 fn break_on(run: &mut Run, form: &[u8], chosen: &Answer) {
     let graph_and_list = Arguments::new(&[], &[form, &chosen.written[0]]);
@@ -70,8 +85,11 @@ fn break_on(run: &mut Run, form: &[u8], chosen: &Answer) {
         return;
     };
     let graph = Arguments::new(&[], &[&spiderized.written[0]]);
-    if let Some(no_loop) = answered(run, NO_LOOP, graph) {
+    if let Some(no_loop) = answered(run, NO_LOOP, graph.clone()) {
         assert_eq!(no_loop.a, 1, "the chosen nodes break every loop");
+    }
+    if let Some(shown) = answered(run, FIND_LOOP, graph) {
+        assert_eq!((shown.a, shown.b), (0, 0), "there is none to be shown");
     }
 }
 

@@ -2,7 +2,7 @@
 //! is empty.
 
 mod picked;
-mod stages;
+pub mod stages;
 
 pub use picked::picked;
 

@@ -8,7 +8,7 @@ pub fn vertices(graph: &Graph) -> usize {
 
 /// From each source node to its edge, from each edge to its target node, as often as it is entered. Edges are numbered on after
 /// the nodes.
-fn arcs(graph: &Graph) -> Vec<(usize, usize)> {
+pub fn arcs(graph: &Graph) -> Vec<(usize, usize)> {
     let nodes = graph.hypergraph.nodes.len();
     let mut arcs = vec![];
     for (i, edge) in graph.hypergraph.adjacency.iter().enumerate() {
@@ -47,7 +47,7 @@ pub fn by_stages(graph: &Graph, kept: &[bool]) -> Option<(Vec<usize>, usize)> {
 }
 
 /// The arcs within the core: of those from a vertex that none leads to and of those to one that none leads from there are none.
-fn within_core(mut arcs: Vec<(usize, usize)>) -> Vec<(usize, usize)> {
+pub fn within_core(mut arcs: Vec<(usize, usize)>) -> Vec<(usize, usize)> {
     loop {
         let goes_on = |(from, to): &(usize, usize)| {
             arcs.iter().any(|arc| arc.1 == *from) && arcs.iter().any(|arc| arc.0 == *to)
