@@ -67,7 +67,7 @@ static void check_numbers(const struct function *f, const struct graph *g, uint6
     if (f->second == NODE_ID || f->second == ENTRIES) due = g->nodes;
     if (f->second == EDGE_ID) due = g->edges;
     if (f->second == FREE) due = g->nodes + g->edges - a; /* each vertex is chosen or removed freely */
-    if (b != due) fail(f->name, "b is what its comment says");
+    if (f->second != STEPS && b != due) fail(f->name, "b is what its comment says");
     if (f->answers == SIZES && a != OHG_SIZES_BYTES) fail(f->name, "the sizes have 24 bytes");
     if (f->answers == YES && a > 1) fail(f->name, "a check answers 0 or 1");
     if ((f->answers == FORM || f->answers == FORM_AND_MAP) && (a < 15 || a > OHG_FORM_BYTES)) fail(f->name, "a form has 15 to 655,385 bytes");
@@ -234,6 +234,41 @@ static void check_keeping(struct desk *d, const struct call *c, const struct out
     if (code == OHG_DONE) check_chosen(f, &k, o, ohg_width(c->src.at, c->src.len));
 }
 
+/* An arc leads from each vertex of the list to the next and from the last to the first, and none is there twice. */
+static void check_cycle(const struct function *f, struct slice src, struct slice list) {
+    static struct arcs a;
+    static uint32_t next[VERTICES_MOST];
+    uint32_t width = ohg_width(src.at, src.len), left = list.len / width;
+    read_arcs(src, &a);
+    memset(next, 0xFF, sizeof next);
+    for (size_t i = 0; i < list.len; i += width) {
+        uint32_t v = get(list.at + i, width);
+        if (v >= a.vertices) fail(f->name, "the loop has vertices of the graph");
+        if (next[v] != NONE) fail(f->name, "the loop has each vertex once");
+        next[v] = get(list.at + (i + width) % list.len, width);
+    }
+    for (uint32_t i = 0; i < a.count; i++) {
+        if (next[a.from[i]] != a.to[i]) continue;
+        next[a.from[i]] = NONE;
+        left--;
+    }
+    if (left) fail(f->name, "an arc leads from each vertex of the loop to the next");
+}
+
+/* It is a loop where there is one, and the one that the walk of walk.c finds. */
+static void check_loop(struct desk *d, const struct call *c, const struct outcome *o, const struct graph *g) {
+    static struct walked w;
+    const struct function *f = &functions[c->function];
+    uint32_t width = ohg_width(c->src.at, c->src.len), count = OHG_A(o->returned), steps = OHG_B(o->returned);
+    if (yes(d, c->src) != (count == 0)) fail(f->name, "a loop is shown exactly when there is one");
+    if (steps < count || steps > g->nodes + g->edges || !steps != !count) fail(f->name, "each vertex of a walk is left by one step");
+    check_cycle(f, c->src, (struct slice){(uint8_t *)o->bytes[0], o->len[0]});
+    walk(c->src, &w);
+    if (steps != w.steps || count != w.count) fail(f->name, "it takes the steps of the walk");
+    for (uint32_t i = 0; i < count; i++)
+        if (get(o->bytes[0] + width * i, width) != w.visits[steps - count + i]) fail(f->name, "it shows the loop that the walk closes");
+}
+
 /* The call with the buffers that the case names: the same answer, or 10 where one is too short. */
 static void call_again(struct desk *d, const struct call *c, const struct outcome *o) {
     const struct function *f = &functions[c->function];
@@ -268,6 +303,7 @@ static void check_answer(struct desk *d, const struct call *c, const struct outc
     bool same = first.len == c->src.len && memcmp(first.at, c->src.at, first.len) == 0;
     if (c->function == REWRITE && !same) fail(f->name, "it gives the bytes that it read");
     if (f->answers == LIST) check_list(d, f, c->src, first, g);
+    if (f->answers == LOOP) check_loop(d, c, o, g);
 }
 
 void run_case(struct desk *d, const struct call *c, struct outcome *o) {

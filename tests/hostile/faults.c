@@ -22,6 +22,8 @@ uint64_t __real_ohg_cycle_breaking_nodes_keeping(const uint8_t *src, size_t src_
                                                  size_t list_len, uint8_t *room, size_t room_len);
 uint64_t __wrap_ohg_cycle_breaking_nodes_keeping(const uint8_t *src, size_t src_len, const uint8_t *kept, size_t kept_len, uint8_t *list,
                                                  size_t list_len, uint8_t *room, size_t room_len);
+uint64_t __real_ohg_find_loop(const uint8_t *src, size_t src_len, uint8_t *list, size_t list_len, uint8_t *room, size_t room_len);
+uint64_t __wrap_ohg_find_loop(const uint8_t *src, size_t src_len, uint8_t *list, size_t list_len, uint8_t *room, size_t room_len);
 uint64_t __real_ohg_spiderize(const uint8_t *src, size_t src_len, uint8_t *out, size_t out_len, uint8_t *room, size_t room_len);
 uint64_t __wrap_ohg_spiderize(const uint8_t *src, size_t src_len, uint8_t *out, size_t out_len, uint8_t *room, size_t room_len);
 uint64_t __real_ohg_spiderize_nodes(const uint8_t *src, size_t src_len, const uint8_t *ids, size_t ids_len, uint8_t *out, size_t out_len,
@@ -447,6 +449,99 @@ uint64_t __wrap_ohg_cycle_breaking_nodes_keeping(const uint8_t *src, size_t src_
     case 73: return blocked ? placed(r, 1) : r;
     case 74: if (blocked && list_len) list[0] ^= 1; break;
     case 75: return done && kept_len && OHG_B(r) ? r - (1ull << 32) : r;
+    }
+    return r;
+}
+
+/* Answers these vertices and so many steps, where they fit. */
+static uint64_t show(const uint32_t *vertices, uint32_t count, uint64_t steps, uint32_t width, uint8_t *list, size_t list_len) {
+    if (list_len < (size_t)width * count) return OHG_SHORT_BUFFER;
+    for (uint32_t i = 0; i < count; i++) put(list + width * i, vertices[i], width);
+    return (uint64_t)count << 8 | steps << 32;
+}
+
+enum rule { FIRST_TARGET, HIGHEST_EDGE, HIGHEST_TARGET, HIGHEST_NODE };
+
+/* A walk through the core by another rule: to the first of an edge's targets, to the highest edge, to the highest target, or from the highest node. */
+static void walk_otherwise(struct slice src, enum rule rule, struct walked *w) {
+    static struct arcs a;
+    static bool core[VERTICES_MOST];
+    static uint32_t onward[VERTICES_MOST];
+    read_arcs(src, &a);
+    find_core(&a, core);
+    memset(onward, 0xFF, sizeof onward);
+    for (uint32_t i = 0; i < a.count; i++) {
+        uint32_t from = a.from[i], to = a.to[i];
+        if (!core[from] || !core[to]) continue;
+        bool first = rule == FIRST_TARGET && from >= a.nodes, highest = rule == (from < a.nodes ? HIGHEST_EDGE : HIGHEST_TARGET);
+        if (onward[from] == NONE || (!first && (highest ? to > onward[from] : to < onward[from]))) onward[from] = to;
+    }
+    uint32_t start = rule == HIGHEST_NODE ? a.nodes - 1 : 0;
+    while (!core[start]) start += rule == HIGHEST_NODE ? -1 : 1;
+    walk_on(onward, start, w);
+}
+
+/* The lowest edge that a node enters, in the core or outside of it. */
+static uint32_t any_edge(struct slice src, uint32_t node) {
+    static struct arcs a;
+    read_arcs(src, &a);
+    uint32_t i = 0;
+    while (a.from[i] != node) i++;
+    return a.to[i];
+}
+
+/* The stack that a walk takes whose calls are no jumps. */
+static uint32_t walk_down(uint32_t steps) {
+    volatile uint64_t frame[2] = {steps};
+    return steps ? walk_down(steps - 1) + (frame[0] == 0) : 0;
+}
+
+/* A spoiled loop in place of the one that was found. */
+static uint64_t spoiled(const uint8_t *src, size_t src_len, const uint8_t *found, uint64_t r, uint8_t *list, size_t list_len) {
+    static struct walked w;
+    static uint32_t shown[VERTICES_MOST + 1];
+    struct slice form = {(uint8_t *)src, src_len};
+    uint32_t width = ohg_width(src, src_len), count = OHG_A(r), steps = OHG_B(r), nodes = count_of(src, src_len, 0), node;
+    for (uint32_t i = 0; i < count; i++) shown[i] = get(found + width * i, width);
+    switch (planted()) {
+    case 100: walk(form, &w); return show(w.visits, w.steps, w.steps, width, list, list_len); /* the way to the loop is shown too */
+    case 101: steps--; break; /* the closing step is not counted */
+    case 102: steps = count; break; /* nor is the way to the loop */
+    case 103:
+    case 104:
+    case 105:
+    case 106:
+        walk_otherwise(form, planted() - 103, &w);
+        return show(w.visits + w.steps - w.count, w.count, w.steps, width, list, list_len);
+    case 107: /* an edge outside of the core */
+        node = shown[0] < nodes ? 0 : 1;
+        shown[(node + 1) % count] = any_edge(form, shown[node]);
+        break;
+    case 108: shown[count++] = shown[0]; break; /* a vertex twice */
+    case 109: for (uint32_t i = 0; i < count; i++) shown[i] = get(found + width * ((i + 1) % count), width); break; /* from another vertex on */
+    case 110: for (uint32_t i = 0; i < count; i++) shown[i] -= shown[i] < nodes ? 0 : nodes; break; /* edges by their own ids */
+    case 111: if (count > 2) count = steps = 0; break; /* only short loops are found */
+    case 112: width = 2; break;
+    }
+    return show(shown, count, steps, width, list, list_len);
+}
+
+uint64_t __wrap_ohg_find_loop(const uint8_t *src, size_t src_len, uint8_t *list, size_t list_len, uint8_t *room, size_t room_len) {
+    static uint8_t found[OHG_LOOP_BYTES];
+    bool spoils = planted() >= 100 && planted() <= 112;
+    uint64_t r = spoils ? __real_ohg_find_loop(src, src_len, found, sizeof found, room, room_len) : 0;
+    if (OHG_CODE(r) == OHG_DONE && OHG_A(r)) return spoiled(src, src_len, found, r, list, list_len);
+    r = __real_ohg_find_loop(src, src_len, list, list_len, room, room_len);
+    bool paired = OHG_CODE(r) == OHG_PENDING_PAIR;
+    struct slice form;
+    switch (planted()) {
+    case 113: walk_down(OHG_B(r)); break;
+    case 114: /* pairs are passed over */
+        if (paired) form = unpaired(src, src_len);
+        return paired ? __real_ohg_find_loop(form.at, form.len, list, list_len, room, room_len) : r;
+    case 115: if (OHG_CODE(r) == OHG_SHORT_BUFFER && list_len) list[0] ^= 1; break;
+    case 116: return paired ? placed(r, 1) : r;
+    case 117: return r ? r : 1ull << 32; /* a step where there is no loop */
     }
     return r;
 }

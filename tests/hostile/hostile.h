@@ -16,7 +16,7 @@
 #endif
 #endif
 
-enum { FUNCTIONS = 21, CODES = 17, LISTS = 2, OUTS = 2, LENGTHS = OUTS + 1, FITS = 8, GUARD = 256 };
+enum { FUNCTIONS = 22, CODES = 17, LISTS = 2, OUTS = 2, LENGTHS = OUTS + 1, FITS = 8, GUARD = 256 };
 
 /* The most bytes that are lent: more than any of them has a use for. */
 enum { SRC_MOST = 700000, LIST_MOST = 1 << 19, OUT_MOST = OHG_FORM_BYTES + 1024, ROOM_MOST = OHG_ROOM_CYCLE_BREAKING_NODES + 4096 };
@@ -34,8 +34,8 @@ struct lent {
     struct slice src, list[LISTS], out[OUTS], room;
 };
 
-enum answers { SIZES, FORM, FORM_AND_MAP, LIST, YES };
-enum second { NOTHING, NODE_ID, EDGE_ID, ENTRIES, FREE }; /* what b is */
+enum answers { SIZES, FORM, FORM_AND_MAP, LIST, LOOP, YES };
+enum second { NOTHING, NODE_ID, EDGE_ID, ENTRIES, FREE, STEPS }; /* what b is */
 enum numbers { NO_NUMBER, LABEL, TWO_NODES, EDGE_AND_LABEL };
 enum entries { NO_LIST, LABELS, NODES, EDGES }; /* of lists in the call */
 
@@ -54,7 +54,7 @@ struct function {
 
 extern const struct function functions[FUNCTIONS];
 
-enum { READ = 0, REWRITE = 1, DISCRETE = 3, DELETE_NODES = 13, SPIDERIZE = 14, SPIDERIZE_NODES = 15, CHOOSE = 16, NO_LOOP = 17, QUOTIENT = 19, KEEPING = 20 };
+enum { READ = 0, REWRITE = 1, DISCRETE = 3, DELETE_NODES = 13, SPIDERIZE = 14, SPIDERIZE_NODES = 15, CHOOSE = 16, NO_LOOP = 17, QUOTIENT = 19, KEEPING = 20, FIND_LOOP = 21 };
 
 /* ---- record.c: a call as the bytes of a file ---- */
 
@@ -124,7 +124,7 @@ bool is_node_list(struct slice src, struct slice list);
 
 /* ---- merge.c: merging, written from T-01's text apart from the port ---- */
 
-enum { NODES_MOST = 16384, PAIRS_MOST = 8192 };
+enum { NONE = 0xFFFFFFFF, NODES_MOST = 16384, PAIRS_MOST = 8192 };
 
 struct merged {
     bool differ; /* two nodes of one class have different labels; there is no form then */
@@ -135,6 +135,18 @@ struct merged {
 
 /* Merges the graph of a form that is taken. */
 void merge(struct slice src, struct merged *m);
+
+/* ---- arcs.c: a drawing as its arcs ---- */
+
+enum { VERTICES_MOST = 2 * NODES_MOST, ARCS_MOST = 65536 };
+
+/* From each source node to its edge, from each edge to its target node, in stored order. Edges are numbered on after the nodes. */
+struct arcs {
+    uint32_t nodes, vertices, count, from[ARCS_MOST], to[ARCS_MOST];
+};
+
+/* The arcs of a form that is taken. */
+void read_arcs(struct slice src, struct arcs *a);
 
 /* ---- keep.c: the choice with kept nodes, written from T-10's text apart from the port ---- */
 
@@ -149,6 +161,22 @@ struct kept {
 
 /* Chooses in the graph of a form that is taken and has no pairs, with a list of its nodes. */
 void keep(struct slice src, struct slice list, struct kept *k);
+
+/* ---- walk.c: one loop, written from T-12's text apart from the port ---- */
+
+/* The loop is the last `count` visits. */
+struct walked {
+    uint32_t steps, count, visits[VERTICES_MOST];
+};
+
+/* Which vertices are left once all that goes freely has gone. */
+void find_core(const struct arcs *a, bool *core);
+/* The walk from a vertex, where each leads on to one other. */
+void walk_on(const uint32_t *onward, uint32_t start, struct walked *w);
+/* The walk in the graph of a form that is taken and has no pairs. */
+void walk(struct slice src, struct walked *w);
+/* The form of a ring of so many nodes, of version 2; returns its length. The walk passes all nodes and edges of it. */
+size_t ring_form(uint32_t nodes, uint8_t *form);
 
 /* ---- cases.c: calls that belong together ---- */
 

@@ -3,8 +3,6 @@
 
 #include "hostile.h"
 
-enum { NONE = 0xFFFFFFFF };
-
 /* What a form's header says, and where its parts begin. */
 struct parts {
     uint32_t width, nodes, edges, sources, targets, pairs;

@@ -25,6 +25,7 @@ struct thread {
     pthread_t id;
     unsigned number;
     uint8_t *stack;
+    size_t before_walks; /* bytes of it that all functions but ohg_find_loop used */
     struct desk desk;
 };
 
@@ -72,10 +73,19 @@ static void record_due(struct desk *d, struct due *u, const struct call *c, uint
     }
 }
 
+/* The deepest walk that there is: all nodes and edges of version 2. */
+static void record_deepest(struct desk *d, struct due *u, uint8_t **next) {
+    static uint8_t form[SRC_MOST];
+    struct call c = {.function = FIND_LOOP, .fit = {2, 2, 2}, .src = {form, ring_form(NODES_MOST, form)}};
+    record_due(d, u, &c, next);
+    if (OHG_A(u->returned) != VERTICES_MOST || OHG_B(u->returned) != VERTICES_MOST) fail(functions[FIND_LOOP].name, "the deepest walk has 32,768 moves");
+}
+
 /* As many calls of each function, in memory that may only be read from then on. */
 static void record_dues(struct desk *d, struct maker *m) {
     uint8_t *block = memory(SHARED, MAP_NORESERVE), *next = block;
-    unsigned have[FUNCTIONS] = {0}, all = 0;
+    unsigned have[FUNCTIONS] = {0}, all = 1;
+    record_deepest(d, &dues[have[FIND_LOOP]++ * FUNCTIONS + FIND_LOOP], &next);
     while (all < FUNCTIONS * CASES) {
         struct call c = make_call(m);
         size_t inputs = c.src.len + c.list[0].len + c.list[1].len;
@@ -86,21 +96,39 @@ static void record_dues(struct desk *d, struct maker *m) {
     mprotect(block, SHARED, PROT_READ);
 }
 
+/* What was never touched of a stack is still 0. */
+static size_t stack_used(const struct thread *t) {
+    size_t unused = 0;
+    while (unused < STACK && t->stack[unused] == 0) unused++;
+    return STACK - unused;
+}
+
+static void call_due(struct thread *t, const struct due *u) {
+    const struct function *f = &functions[u->call.function];
+    current = &u->call;
+    struct lent l = inputs_of(&u->call);
+    uint64_t returned = call_once(&t->desk, u->call.function, &l, u->length, any(&t->desk.garbage));
+    if (returned != u->returned) fail(f->name, "a thread among others is returned the same number");
+    for (int k = 0; k < f->outs; k++)
+        if (memcmp(answered(&t->desk, &l, k), u->bytes[k], u->len[k]) != 0) fail(f->name, "a thread among others is answered the same bytes");
+    current = NULL;
+}
+
+/* Either the calls that walk, or all others. */
+static void call_dues(struct thread *t, bool walks) {
+    for (unsigned i = 0; i < ROUNDS * FUNCTIONS * CASES; i++) {
+        const struct due *u = &dues[(t->number * 7 + i) % (FUNCTIONS * CASES)];
+        if ((u->call.function == FIND_LOOP) == walks) call_due(t, u);
+    }
+}
+
 static void *work(void *argument) {
     struct thread *t = argument;
     stack_for_signals();
     pthread_barrier_wait(&start);
-    for (unsigned i = 0; i < ROUNDS * FUNCTIONS * CASES; i++) {
-        const struct due *u = &dues[(t->number * 7 + i) % (FUNCTIONS * CASES)];
-        const struct function *f = &functions[u->call.function];
-        current = &u->call;
-        struct lent l = inputs_of(&u->call);
-        uint64_t returned = call_once(&t->desk, u->call.function, &l, u->length, any(&t->desk.garbage));
-        if (returned != u->returned) fail(f->name, "a thread among others is returned the same number");
-        for (int k = 0; k < f->outs; k++)
-            if (memcmp(answered(&t->desk, &l, k), u->bytes[k], u->len[k]) != 0) fail(f->name, "a thread among others is answered the same bytes");
-    }
-    current = NULL;
+    call_dues(t, false);
+    t->before_walks = stack_used(t);
+    call_dues(t, true);
     return NULL;
 }
 
@@ -121,13 +149,6 @@ static void start_thread(struct thread *t, unsigned number) {
     pthread_attr_destroy(&attributes);
 }
 
-/* What was never touched of a stack is still 0. */
-static size_t stack_used(const struct thread *t) {
-    size_t unused = 0;
-    while (unused < STACK && t->stack[unused] == 0) unused++;
-    return STACK - unused;
-}
-
 void run_threads(struct desk *d, struct maker *m) {
     static struct thread threads[THREADS];
     make_more_large(m);
@@ -136,15 +157,17 @@ void run_threads(struct desk *d, struct maker *m) {
     alarm(600);
     for (unsigned i = 0; i < THREADS; i++) start_thread(&threads[i], i);
     uint64_t calls = 0;
-    size_t deepest = 0;
+    size_t deepest = 0, before_walks = 0;
     for (unsigned i = 0; i < THREADS; i++) {
         pthread_join(threads[i].id, NULL);
         size_t used = stack_used(&threads[i]);
         if (used > deepest) deepest = used;
+        if (threads[i].before_walks > before_walks) before_walks = threads[i].before_walks;
         calls += threads[i].desk.calls;
         for (int f = 0; f < FUNCTIONS; f++)
             for (int code = 0; code < CODES; code++) d->counts[f][code] += threads[i].desk.counts[f][code];
     }
     d->calls += calls;
-    printf("%d threads with stacks of %d bytes: %llu calls, at most %zu bytes of a stack used\n", THREADS, STACK, (unsigned long long)calls, deepest);
+    printf("%d threads with stacks of %d bytes: %llu calls, at most %zu bytes of a stack used, and %zu by ohg_find_loop, whose deepest walk has %d moves\n",
+           THREADS, STACK, (unsigned long long)calls, before_walks, deepest, VERTICES_MOST);
 }
