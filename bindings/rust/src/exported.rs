@@ -56,6 +56,7 @@ exported! {
     ohg_cycle_breaking_nodes_keeping(src kept;;; list room);
     ohg_spiderize(src;;; out room);
     ohg_spiderize_nodes(src ids;;; out room);
+    ohg_find_loop(src;;; list room);
     ohg_no_loop(src;;; room);
     ohg_once_fed(src;;; room);
 }

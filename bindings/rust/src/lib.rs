@@ -33,7 +33,7 @@ mod refusal;
 use exported::*;
 use lent::{answered, Lent};
 pub use refusal::{Refusal, Refused};
-use std::array;
+use std::{array, fmt};
 
 /// The edge label that says spider; every other value is an operation.
 pub const SPIDER: u32 = u32::MAX;
@@ -73,6 +73,25 @@ pub struct Choice {
     pub nodes: Vec<NodeId>,
     /// How many nodes and edges were removed freely, since nothing led to them or they led to nothing.
     pub free: usize,
+}
+
+/// A vertex of a directed cycle, which passes nodes and edges by turns.
+#[derive(Debug, Clone, Copy, PartialEq, Eq, PartialOrd, Ord, Hash)]
+pub enum Vertex {
+    /// It enters the edge that follows.
+    Node(NodeId),
+    /// The node that follows is one of its targets.
+    Edge(EdgeId),
+}
+
+/// One directed cycle.
+#[derive(Debug, Clone, PartialEq, Eq)]
+pub struct Loop {
+    /// Its nodes and edges by turns, each once, in the order in which it passes them; the last leads to the first. There are
+    /// none exactly where there is no directed cycle.
+    pub vertices: Vec<Vertex>,
+    /// How many steps the walk took that found it, those before the loop and the closing one included.
+    pub steps: usize,
 }
 
 /// A drawing as its stored bytes, which are always a valid form. One graph has one form, so equal graphs have equal
@@ -278,6 +297,27 @@ impl Graph {
         Graph::made(|lent| ohg_spiderize_nodes(&self.form, &ids, &mut lent.form, &mut lent.room))
     }
 
+    /// Shows one directed cycle, if there is one. Once all is removed that goes freely, a walk starts at the lowest node that
+    /// is left and goes from a node to the lowest edge there that it enters, and from an edge to its lowest target there; the
+    /// loop is closed by the first node or edge that it meets again, with which the answer begins.
+    ///
+    /// Refused: [`PendingPair`](Refusal::PendingPair).
+    pub fn find_loop(&self) -> Result<Loop, Refused> {
+        let (width, nodes) = (self.width(), self.node_count());
+        // A loop has no vertex twice, and in the form each has a label of 4 bytes.
+        let mut list = vec![0; self.form.len()];
+        let packed = lent::with(|lent| ohg_find_loop(&self.form, &mut list, &mut lent.room));
+        let (count, steps) = answered(packed)?;
+        let vertex = |id: &[u8]| match number(id) {
+            edge if edge >= nodes => Vertex::Edge(EdgeId(edge - nodes)),
+            node => Vertex::Node(NodeId(node)),
+        };
+        Ok(Loop {
+            vertices: list.chunks_exact(width).take(count).map(vertex).collect(),
+            steps: steps as usize,
+        })
+    }
+
     /// Whether there is no directed cycle.
     ///
     /// Refused: [`PendingPair`](Refusal::PendingPair).
@@ -365,6 +405,15 @@ impl Graph {
     /// A list of node ids as a call on this graph takes it.
     fn node_ids(&self, list: &[NodeId]) -> Vec<u8> {
         self.ids(list.iter().map(|node| node.0))
+    }
+}
+
+impl fmt::Display for Vertex {
+    fn fmt(&self, f: &mut fmt::Formatter) -> fmt::Result {
+        match self {
+            Vertex::Node(node) => write!(f, "node {}", node.0),
+            Vertex::Edge(edge) => write!(f, "edge {}", edge.0),
+        }
     }
 }
 

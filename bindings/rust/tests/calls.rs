@@ -1,6 +1,6 @@
 //! Every call, on document 01's drawings P1 to P9 and on what it is to refuse.
 
-use ohg::{Choice, EdgeId, Graph, NodeId, Refusal, Refused, Sizes, SPIDER};
+use ohg::{Choice, EdgeId, Graph, Loop, NodeId, Refusal, Refused, Sizes, Vertex, SPIDER};
 use std::thread;
 
 fn nodes(ids: &[u32]) -> Vec<NodeId> {
@@ -183,6 +183,47 @@ fn a_loop_of_kept_nodes_is_refused() {
     // No loop, so none of kept nodes either.
     let p4 = Graph::identity(&[7]).unwrap();
     assert_eq!(p4.cycle_breaking_nodes_keeping(&[0]), chosen(&[], 1));
+}
+
+fn shown(vertices: &[Vertex], steps: usize) -> Result<Loop, Refused> {
+    let vertices = vertices.to_vec();
+    Ok(Loop { vertices, steps })
+}
+
+#[test]
+fn one_loop_is_shown() {
+    let node = |id| Vertex::Node(NodeId(id));
+    let edge = |id| Vertex::Edge(EdgeId(id));
+    assert_eq!(Graph::empty().find_loop(), shown(&[], 0));
+    assert_eq!(Graph::identity(&[7]).unwrap().find_loop(), shown(&[], 0));
+    assert_eq!(p2().find_loop(), shown(&[node(0), edge(0)], 2));
+    let all = [node(0), edge(0), node(1), edge(1)];
+    assert_eq!(p6().find_loop(), shown(&all, 4));
+    assert_eq!(p7().find_loop(), shown(&[node(0), edge(0)], 2));
+    let all = [node(2048), edge(0), node(2049), edge(1)];
+    assert_eq!(larger_p6().find_loop(), shown(&all, 4));
+    // The way to a loop is not shown, but counted; it may begin at an edge.
+    let edges: [(u32, &[u32], &[u32]); 3] = [(9, &[0], &[1]), (9, &[1, 2], &[2]), (9, &[0], &[0])];
+    let at_the_end = drawn(3, &edges).find_loop();
+    assert_eq!(at_the_end, shown(&[edge(1), node(2)], 5));
+    let p9 = joined(p6(), &[(0, 1)]);
+    assert_eq!(p9.find_loop(), Err(at(Refusal::PendingPair, 0)));
+    assert_eq!(node(3).to_string(), "node 3");
+    assert_eq!(edge(3).to_string(), "edge 3");
+}
+
+/// Every node and edge that a graph may have.
+#[test]
+fn the_longest_loop_is_shown() {
+    let count = 16_384;
+    let ring = (0..count).map(|v| [1, 1, v, (v + 1) % count]);
+    let labels = vec![0; 2 * count as usize];
+    let numbers = [&[count, count, 0, 0, 0][..], &labels].concat();
+    let ring = stored_larger(&[numbers, ring.flatten().collect()].concat());
+    let found = Graph::from_bytes(ring).unwrap().find_loop().unwrap();
+    assert_eq!(found.steps, 32_768);
+    let both = |id| [Vertex::Node(NodeId(id)), Vertex::Edge(EdgeId(id))];
+    assert!(found.vertices.into_iter().eq((0..count).flat_map(both)));
 }
 
 #[test]
