@@ -7,6 +7,11 @@ fn cut() -> Result<(), Box<dyn Error>> {
     let mut bytes = Vec::new();
     stdin().read_to_end(&mut bytes)?;
     let graph = Graph::from_bytes(bytes)?;
+    let found = graph.find_loop()?;
+    if !found.vertices.is_empty() {
+        let vertices: Vec<String> = found.vertices.iter().map(|v| v.to_string()).collect();
+        println!("loop: {}", vertices.join(" "));
+    }
     let choice = graph.cycle_breaking_nodes()?;
     println!("cut {} free {}", choice.nodes.len(), choice.free);
     let cut = graph.spiderize_nodes(&choice.nodes)?;
