@@ -20,6 +20,7 @@ mod once_fed;
 mod plot;
 mod port;
 mod reading;
+mod showing;
 mod sides;
 mod spidering;
 mod stored;
@@ -63,6 +64,7 @@ fn measure() -> Result<(), String> {
     tables.extend(merging::measure(&rooms)?);
     tables.extend(choice::measure(&rooms)?);
     tables.extend(keeping::measure(&rooms)?);
+    tables.extend(showing::measure(&rooms)?);
     tables.extend(once_fed::measure(&rooms)?);
     tables.extend(spidering::measure(&rooms)?);
     table::print_summary(&tables);

@@ -33,6 +33,7 @@ pub fn print_rounds() {
 /// What stands beside the port, in a table's words: first on a graph in memory, then from stored form to stored form.
 pub const ORIGINAL: [&str; 2] = ["original (decoded)", "original (stored)"];
 pub const PLAIN_CHECK: [&str; 2] = ["plain check (decoded)", "plain check (stored)"];
+pub const PLAIN_WALK: [&str; 2] = ["plain walk (decoded)", "plain walk (stored)"];
 
 /// The ratios of one row of a table: the port's time to each of what it stands beside.
 struct Row {
@@ -108,7 +109,7 @@ impl Table {
 
     /// The column of what is given a graph in memory, if there is one.
     fn in_memory(&self) -> Option<usize> {
-        [&ORIGINAL, &PLAIN_CHECK]
+        [&ORIGINAL, &PLAIN_CHECK, &PLAIN_WALK]
             .iter()
             .any(|sides| self.beside == *sides)
             .then_some(0)

@@ -17,9 +17,9 @@ const FEW: usize = 40;
 
 /// The vertices of a loop, edges numbered on after the nodes, and the steps of the walk that found it.
 #[derive(Debug, PartialEq, Eq)]
-struct Shown {
-    list: Vec<usize>,
-    steps: usize,
+pub struct Shown {
+    pub list: Vec<usize>,
+    pub steps: usize,
 }
 
 const NONE_SHOWN: Shown = Shown {
@@ -43,7 +43,7 @@ pub fn find_loop(arguments: &Arguments) -> Outcome {
 }
 
 /// The walk from the lowest node of the core, which is left when all that is loose has been taken away.
-fn walked(graph: &Graph) -> Shown {
+pub fn walked(graph: &Graph) -> Shown {
     let onward = definition::lowest_in_core(graph);
     let nodes = 0..graph.hypergraph.nodes.len();
     let Some(start) = nodes.into_iter().find(|&node| onward[node].is_some()) else {
