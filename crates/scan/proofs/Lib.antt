@@ -1,0 +1,9 @@
+pub mod Tables
+pub mod Loops
+pub mod Going
+pub mod Form
+pub mod Sweeping
+pub mod Choosing
+pub mod Beginning
+pub mod Staging
+pub mod Answering
