@@ -49,7 +49,7 @@ use Rattle.ohg.proofs.Unpacked.{code-of-packed, a-of-packed, b-of-packe
 
 -- ---- a code of 0 is an answer, and a and b are its numbers
 
-answer-of : (x : Answer Result) {r : ℕ} → Ranged x → r ≡ packed x → codeIn r ≡ 0 → (y : Result) × (x ≡ answered y) × (aIn r ≡ y .a) × (bIn r ≡ y .b)
+pub answer-of : (x : Answer Result) {r : ℕ} → Ranged x → r ≡ packed x → codeIn r ≡ 0 → (y : Result) × (x ≡ answered y) × (aIn r ≡ y .a) × (bIn r ≡ y .b)
 answer-of (refused q) h e code = absurd (omega (arith, code-of-packed (refused q) h e, h .no q refl .0))
 answer-of (answered y) h e code = (y, refl, a-of-packed (answered y) h e, b-of-packed (answered y) h e)
 

@@ -2,5 +2,6 @@ pub mod Ranges
 pub mod Packing
 pub mod Unpacked
 pub mod Caller
+pub mod Engines
 pub mod Explicit
 pub mod Rewritten

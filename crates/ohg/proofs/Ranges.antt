@@ -13,18 +13,19 @@ use Rattle.graph.specs.Graph.{Graph, Format, Proper, WellFormed, largest}
 use Rattle.graph.specs.Checks.{monogamous}
 use Rattle.choice.specs.Drawing.{noLoop}
 use Rattle.le.specs.Le.{Below}
-use Rattle.choice.specs.Calls.{cycleBreakingNodesCall, cycleBreakingNodesKeepingCall, noLoopCall, findLoopCall}
+use Rattle.choice.specs.Calls.{roomCycleBreakingNodes, cycleBreakingNodesCall, cycleBreakingNodesKeepingCall, cycleBreakingNodesScanningCall, noLoopCall, findLoopCall}
 use Rattle.choice.proofs.Graphs.{chosen-and-free-are-all}
 use Rattle.choice.proofs.Stored.{cycle-breaking-nodes-answer, no-loop-answer}
 use Rattle.choice.proofs.KeptStored.{keeping-answer}
 use Rattle.choice.proofs.Shown.{steps-bounds}
 use Rattle.choice.proofs.ShownStored.{find-loop-answer}
+use Rattle.choice.proofs.Sweeps.{scanned-kept}
 use Rattle.graph.proofs.Answers.{FormOf, Keeps, on-graph-answer, on-nothing-answer, read-answer, delete-nodes-answer, quotient-call-answer, once-fed-answer, worked, rewrite-kept, empty-kept, discrete-kept, identity-kept, singleton-kept, new-node-kept, new-edge-kept, new-operation-kept, unify-kept, add-source-kept, add-target-kept, delete-edges-kept, spiderize-kept, spiderize-all-kept}
 use Rattle.graph.specs.RefusedBy.{readCallRefusals, rewriteRefusals, emptyRefusals, discreteRefusals, identityRefusals, singletonRefusals, newNodeRefusals, newEdgeRefusals, newOperationRefusals, unifyRefusals, addEdgeSourceRefusals, addEdgeTargetRefusals, deleteEdgesRefusals, deleteNodesRefusals, quotientRefusals, spiderizeRefusals, spiderizeNodesRefusals, onceFedRefusals}
-use Rattle.choice.specs.RefusedBy.{cycleBreakingNodesRefusals, cycleBreakingNodesKeepingRefusals, noLoopRefusals, findLoopRefusals}
+use Rattle.choice.specs.RefusedBy.{cycleBreakingNodesRefusals, cycleBreakingNodesKeepingRefusals, cycleBreakingNodesScanningRefusals, noLoopRefusals, findLoopRefusals}
 use Rattle.graph.proofs.Refusals.{Listed, listed, refused-in}
 use Rattle.graph.proofs.RefusedBy.{read-call-by, rewrite-by, empty-by, discrete-by, identity-by, singleton-by, new-node-by, new-edge-by, new-operation-by, unify-by, add-edge-source-by, add-edge-target-by, delete-edges-by, delete-nodes-by, quotient-by, spiderize-by, spiderize-nodes-by, once-fed-by}
-use Rattle.choice.proofs.RefusedBy.{cycle-breaking-nodes-by, cycle-breaking-nodes-keeping-by, no-loop-by, find-loop-by}
+use Rattle.choice.proofs.RefusedBy.{cycle-breaking-nodes-by, cycle-breaking-nodes-keeping-by, cycle-breaking-nodes-scanning-by, no-loop-by, find-loop-by}
 use Rattle.graph.proofs.Steps.{same-answer, came}
 use Rattle.graph.proofs.Versions.{read-sound, longest}
 use Rattle.ohg.specs.Packed.{Ranged}
@@ -194,6 +195,13 @@ module _ (b : List ℕ) (t : Below 256 b) (room : ℕ) where
         let within = sound .version .grows (s .graph) (sound .formed) .counts in
         let all = k .spares .all-counted in
         (omega (arith, k .count, all, within .nodes, within .edges), omega (arith, k .free, all, within .nodes, within .edges));
+  }
+
+  -- the second engine answers what the first does
+  pub cycle-breaking-nodes-scanning-ranged : (kept : List ℕ) (workRoom : ℕ) → Ranged (cycleBreakingNodesScanningCall b kept room workRoom)
+  cycle-breaking-nodes-scanning-ranged kept workRoom = record {
+    no = λ r e. refused-in (listed cycleBreakingNodesScanningRefusals refl (cycle-breaking-nodes-scanning-by b kept room workRoom)) e;
+    numbers = λ m e. cycle-breaking-nodes-keeping-ranged kept roomCycleBreakingNodes .numbers m (scanned-kept b kept room workRoom m e);
   }
 
   pub find-loop-ranged : (workRoom : ℕ) → Ranged (findLoopCall b room workRoom)

@@ -1,0 +1,23 @@
+-- `ohg::ohg_cycle_breaking_nodes_scanning` meets its contract.
+-- Assumes nothing.
+use native.Mathlib.Omega.{arith}
+use lib.ListN.{length}
+use denote.Ref.{now}
+use borrow.Author.Needs.{needs}
+use Rattle.le.proofs.Numbers.{below-each}
+use Rattle.ohg.proofs.Packing.{packs, returns-of}
+use Rattle.ohg.proofs.Ranges.{cycle-breaking-nodes-scanning-ranged}
+use Rattle.ohg.proofs.ohg_cycle_breaking_nodes_scanning.Statement.{statement}
+use Rattle.ohg.proofs.ohg_cycle_breaking_nodes_scanning.Tie as tie
+
+pack-requires : tie.Need-pack-requires
+pack-requires c κs =
+    let a = c .before .before .before .before .before .before .before .before .before .before .before .args in
+    let t-src = below-each 256 (now (a .src)) (λ i l. omega (arith, c .before .before .before .before .before .before .before .before .before .before .shared-slice-known .given i)) in
+    packs (cycle-breaking-nodes-scanning-ranged (now (a .src)) t-src (length (now (a .list))) (now (a .kept)) (length (now (a .room)))) (c .before .before .before .before .cycle-breaking-nodes-scanning .ensures .result)
+
+returns : tie.Need-returns
+returns c = returns-of (c .before .before .before .before .before .cycle-breaking-nodes-scanning .ensures) (c .pack .ensures)
+
+pub ohg-cycle-breaking-nodes-scanning-spec : {M : Type 1} → statement M
+ohg-cycle-breaking-nodes-scanning-spec = tie.close (tie.spec (λ c κs. search needs) pack-requires (λ c. search needs) (λ c. search needs) returns)
