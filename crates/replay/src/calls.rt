@@ -152,6 +152,7 @@ fn two_in_with_room(
         12 => ohg::ohg_delete_edges(src, ids, out, room) == due,
         16 => ohg::ohg_spiderize_nodes(src, ids, out, room) == due,
         20 => ohg::ohg_cycle_breaking_nodes_keeping(src, ids, out, room) == due,
+        21 => ohg::ohg_cycle_breaking_nodes_scanning(src, ids, out, room) == due,
         _ => false,
     }
 }
