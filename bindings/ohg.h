@@ -106,6 +106,7 @@ static inline uint32_t ohg_width(const uint8_t *src, size_t src_len) {
 #define OHG_ROOM_SPIDERIZE_NODES 196608
 #define OHG_ROOM_CYCLE_BREAKING_NODES 1390016
 #define OHG_ROOM_CYCLE_BREAKING_NODES_KEEPING 1390016
+#define OHG_ROOM_CYCLE_BREAKING_NODES_SCANNING 98304
 #define OHG_ROOM_FIND_LOOP 1190656
 #define OHG_ROOM_NO_LOOP 1190656
 #define OHG_ROOM_ONCE_FED 16384
@@ -210,6 +211,13 @@ uint64_t ohg_cycle_breaking_nodes(const uint8_t *src, size_t src_len, uint8_t *l
  * 10. */
 uint64_t ohg_cycle_breaking_nodes_keeping(const uint8_t *src, size_t src_len, const uint8_t *kept, size_t kept_len, uint8_t *list,
                                           size_t list_len, uint8_t *room, size_t room_len);
+
+/* The same answer and the same refusals, with their places, as ohg_cycle_breaking_nodes_keeping, found by sweeping over the drawing: in less
+ * room and, on a large drawing, in more time.
+ * a: ids in the list. b: vertices removed freely. Room: OHG_ROOM_CYCLE_BREAKING_NODES_SCANNING. Refusals: 10 (room), 1 to 6, 13, 7, 8, 16,
+ * 10. */
+uint64_t ohg_cycle_breaking_nodes_scanning(const uint8_t *src, size_t src_len, const uint8_t *kept, size_t kept_len, uint8_t *list,
+                                           size_t list_len, uint8_t *room, size_t room_len);
 
 /* Shows one directed cycle: `list` gets its vertices, each once, as wide as in `src`, in the order in which it passes them. They are nodes and
  * edges by turns, and an edge is the node count and its id; the last leads to the first. Once all is removed that goes freely, a walk starts at
