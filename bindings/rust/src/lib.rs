@@ -279,6 +279,13 @@ impl Graph {
         self.choice(|list, room| ohg_cycle_breaking_nodes_keeping(&self.form, &kept, list, room))
     }
 
+    /// Answers and refuses just as [`cycle_breaking_nodes_keeping`](Graph::cycle_breaking_nodes_keeping), by sweeping over
+    /// the graph: it touches a fourteenth of the work room, and takes longer on a large graph.
+    pub fn cycle_breaking_nodes_scanning(&self, kept: &[u32]) -> Result<Choice, Refused> {
+        let kept = self.ids(kept.iter().copied());
+        self.choice(|list, room| ohg_cycle_breaking_nodes_scanning(&self.form, &kept, list, room))
+    }
+
     /// The graph with its joined nodes merged, as by [`quotient`](Graph::quotient), and then the wiring of all nodes made
     /// explicit by spiders.
     ///

@@ -137,52 +137,59 @@ fn the_choice_meets_every_loop() {
     assert_eq!(p7().cycle_breaking_nodes(), chosen(&[0, 1, 2], 2));
 }
 
+/// The choice among the nodes that are not kept, which both engines answer.
+fn choice_of_both(graph: &Graph, kept: &[u32]) -> Result<Choice, Refused> {
+    let choice = graph.cycle_breaking_nodes_keeping(kept);
+    assert_eq!(graph.cycle_breaking_nodes_scanning(kept), choice);
+    choice
+}
+
 #[test]
 fn the_choice_spares_kept_nodes() {
     for graph in [Graph::empty(), p2(), p6(), p7(), larger_p6()] {
         let choice = graph.cycle_breaking_nodes();
-        assert_eq!(graph.cycle_breaking_nodes_keeping(&[]), choice);
+        assert_eq!(choice_of_both(&graph, &[]), choice);
     }
-    assert_eq!(p6().cycle_breaking_nodes_keeping(&[0]), chosen(&[1], 3));
+    assert_eq!(choice_of_both(&p6(), &[0]), chosen(&[1], 3));
     let cut = p6().spiderize_nodes(&nodes(&[1])).unwrap();
     assert_eq!(cut.no_loop(), Ok(true));
     for kept in [&[1][..], &[1, 1]] {
-        let choice = p7().cycle_breaking_nodes_keeping(kept);
+        let choice = choice_of_both(&p7(), kept);
         assert_eq!(choice, chosen(&[0, 2], 3));
     }
     let larger = larger_p6();
     for kept in [&[2048, 5, 0][..], &[0, 5, 2048, 5]] {
-        let choice = larger.cycle_breaking_nodes_keeping(kept);
+        let choice = choice_of_both(&larger, kept);
         assert_eq!(choice, chosen(&[2049], 2051));
     }
     // Node 0 is on no loop, but between two.
     let bridged = drawn(3, &[(9, &[1], &[1, 0]), (10, &[0, 2], &[2])]);
     assert_eq!(bridged.cycle_breaking_nodes(), chosen(&[0, 1, 2], 2));
-    let keeping_the_bridge = bridged.cycle_breaking_nodes_keeping(&[0]);
+    let keeping_the_bridge = choice_of_both(&bridged, &[0]);
     assert_eq!(keeping_the_bridge, chosen(&[1, 2], 3));
 }
 
 #[test]
 fn a_loop_of_kept_nodes_is_refused() {
     let blocked = Err(at(Refusal::KeptCycle, 0));
-    assert_eq!(p2().cycle_breaking_nodes_keeping(&[0]), blocked);
-    assert_eq!(p6().cycle_breaking_nodes_keeping(&[1, 0]), blocked);
+    assert_eq!(choice_of_both(&p2(), &[0]), blocked);
+    assert_eq!(choice_of_both(&p6(), &[1, 0]), blocked);
     // Its other loops could be broken.
-    assert_eq!(p7().cycle_breaking_nodes_keeping(&[2]), blocked);
+    assert_eq!(choice_of_both(&p7(), &[2]), blocked);
     let larger = larger_p6();
-    let both = larger.cycle_breaking_nodes_keeping(&[2049, 2048]);
+    let both = choice_of_both(&larger, &[2049, 2048]);
     assert_eq!(both, blocked);
     // The list is looked at before, and so are pairs.
-    let bad = p6().cycle_breaking_nodes_keeping(&[0, 1, 2]);
+    let bad = choice_of_both(&p6(), &[0, 1, 2]);
     assert_eq!(bad, Err(at(Refusal::BadList, 2)));
     let p9 = joined(p6(), &[(0, 1)]);
-    let bad = p9.cycle_breaking_nodes_keeping(&[2]);
+    let bad = choice_of_both(&p9, &[2]);
     assert_eq!(bad, Err(at(Refusal::BadList, 0)));
-    let paired = p9.cycle_breaking_nodes_keeping(&[0, 1]);
+    let paired = choice_of_both(&p9, &[0, 1]);
     assert_eq!(paired, Err(at(Refusal::PendingPair, 0)));
     // No loop, so none of kept nodes either.
     let p4 = Graph::identity(&[7]).unwrap();
-    assert_eq!(p4.cycle_breaking_nodes_keeping(&[0]), chosen(&[], 1));
+    assert_eq!(choice_of_both(&p4, &[0]), chosen(&[], 1));
 }
 
 fn shown(vertices: &[Vertex], steps: usize) -> Result<Loop, Refused> {
@@ -344,7 +351,7 @@ fn refuses_foreign_ids(whole: Graph) {
         assert_eq!(graph.delete_edges(&[there, edge, edge]), Err(bad(1)));
         assert_eq!(graph.delete_nodes(&[first, node]), Err(bad(1)));
         assert_eq!(graph.spiderize_nodes(&[first, first, node]), Err(bad(2)));
-        let kept = graph.cycle_breaking_nodes_keeping(&[0, node.0]);
+        let kept = choice_of_both(&graph, &[0, node.0]);
         assert_eq!(kept, Err(bad(1)));
     }
     assert_eq!(graph, whole);
