@@ -6,7 +6,7 @@ use mathlib.Core.Path.{_≡_, sym, ap, _∙_, subst}
 use Prim.Native.Nat.{ℕ, _≤_}
 use lib.ListN.{length}
 use Rattle.le.specs.Le.{Below}
-use Rattle.graph.specs.Answer.{Answer, answered, Result, laid}
+use Rattle.graph.specs.Answer.{Answer, Result, laid}
 use Rattle.graph.specs.Graph.{Graph}
 use Rattle.choice.specs.Calls.{roomCycleBreakingNodes, cycleBreakingNodesKeepingCall, roomCycleBreakingNodesScanning, cycleBreakingNodesScanningCall}
 use Rattle.choice.proofs.Sweeps.{engines-agree, scanned-kept}

@@ -1,6 +1,5 @@
 -- What the choice comes to once its nodes are marked: the list does not fit, or it is written.
 -- Assumes nothing.
-use mathlib.Core.Bool.{true}
 use mathlib.Core.List.{List, []}
 use mathlib.Core.Path.{_≡_, refl, sym, ap, _∙_}
 use Prim.Native.Nat.{ℕ, _+_, _*_, _≤_, _<_}
@@ -8,7 +7,6 @@ use native.Mathlib.Omega.{arith}
 use lib.ListN.{length, getD}
 use lib.Seq.{sets}
 use borrow.Author.Tests.{le-leb, lt-leb, eqb-true, eq-eqb}
-use Rattle.choice.specs.Arcs.{In}
 use Rattle.choice.specs.Calls.{listing}
 use Rattle.choice.specs.Choice.{Chosen}
 use Rattle.choice.specs.Drawing.{vertexCount}

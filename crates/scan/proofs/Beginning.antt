@@ -3,7 +3,7 @@
 use mathlib.Core.Path.{_≡_, refl, sym, ap, _∙_, subst}
 use mathlib.Core.Bool.{Bool, true, false, _||_, cond}
 use mathlib.Core.List.{List, [], _∷_, _++_, append-nil, List·Memᴰ·head, List·Memᴰ·not-nil, Memᴰ·append-left, Memᴰ·append-right}
-use mathlib.Core.Logic.{inl, inr}
+use mathlib.Core.Logic.{inr}
 use Prim.Native.Nat.{ℕ, zero, suc, _+_, _*_, _%_, _^_, _≤_, _<_}
 use native.Mathlib.Decide.{decLt}
 use native.Mathlib.Nat.{mod-add-mod, zero-add, not-suc-le-zero}
@@ -22,7 +22,7 @@ use Rattle.graph.specs.Graph.{Edge, Graph, edgeSources, edgeTargets}
 use Rattle.graph.specs.Lists.{among, joined}
 use Rattle.graph.proofs.Laws.{joined-append}
 use Rattle.graph.proofs.Rows.{take-edges}
-use Rattle.choice.specs.Arcs.{In, howMany, Set, has, vertices, size}
+use Rattle.choice.specs.Arcs.{In, howMany, Set, vertices, size}
 use Rattle.choice.proofs.Sets.{size-vertices}
 use Rattle.choice.specs.Degrees.{Sofar}
 use Rattle.choice.specs.Drawing.{arcs, vertexCount}
@@ -33,7 +33,7 @@ use Rattle.choice.specs.Arcs as choice
 use Rattle.scan.specs.Tables.{mostNodes, mostVertices, degreesAt, remains, left, keptIn, degrees, shiftedAll, testedAll, wentOf, upTo}
 use Rattle.scan.specs.Sweeps.{Telling, State, Rests}
 use Rattle.scan.specs.Stages.{Counted, Prepared, Begun}
-use Rattle.scan.proofs.Tables.{has-left, length-left, left-same, mark-same, degrees-set, shifts-long, shifts-marks, shifts-degrees, tests-tight, went-size}
+use Rattle.scan.proofs.Tables.{has-left, length-left, mark-same, degrees-set, shifts-long, shifts-marks, shifts-degrees, tests-tight, went-size}
 use Rattle.scan.proofs.Going.{Drawn, tests-telling}
 
 -- ---- words that are not written to, and those that are 0

@@ -1,36 +1,36 @@
 -- The best node that may be chosen: found in one pass, it is the best of the definition; it is picked; and where there is none the choice is refused.
 -- Assumes nothing.
 use mathlib.Core.Path.{_≡_, refl, sym, ap, _∙_, subst}
-use mathlib.Core.Bool.{Bool, true, false, _&&_, not, cond, false≢true}
-use mathlib.Core.List.{List, [], _∷_, List·Memᴰ·head, List·Memᴰ·tail, List·Memᴰ·cases-cons}
-use mathlib.Core.Logic.{_⊎_, inl, inr, ⊎-elim, _↔_, _≢_}
-use Prim.Native.Nat.{ℕ, zero, suc, _+_, _*_, _/_, _%_, _≤_, _<_}
+use mathlib.Core.Bool.{Bool, true, false, not, cond}
+use mathlib.Core.List.{List, _∷_, List·Memᴰ·head, List·Memᴰ·tail, List·Memᴰ·cases-cons}
+use mathlib.Core.Logic.{⊎-elim, _↔_}
+use Prim.Native.Nat.{ℕ, suc, _+_, _*_, _/_, _%_, _≤_, _<_}
 use native.Mathlib.Decide.{ℕ-discrete, decLt}
-use native.Mathlib.Nat.{eq-zero-or-pos, not-suc-le-zero, mul-pos}
+use native.Mathlib.Nat.{not-suc-le-zero, mul-pos}
 use native.Mathlib.Omega.{arith}
 use lib.Dec.{T, eqb, ltb, ltb→lt, lt→ltb}
 use lib.ListN.{length, getD, set}
 use lib.Seq.{getD-set-same, getD-set-other}
-use borrow.Author.Tests.{eqb-true, eq-eqb, ne-eqb, lt-ltb, le-ltb, ltb-true, ltb-false}
+use borrow.Author.Tests.{eqb-true, eq-eqb, ltb-true, ltb-false}
 use Rattle.graph.specs.Answer.{refused, refusal}
 use Rattle.graph.specs.Graph.{Graph}
 use Rattle.graph.specs.Lists.{among}
-use Rattle.choice.specs.Arcs.{In, Set, has, without, size, into, out, Stable}
+use Rattle.choice.specs.Arcs.{In, Set, has, size, into, out, Stable}
 use Rattle.choice.specs.Choice as choice
 use Rattle.choice.specs.Choice.{score}
 use Rattle.choice.specs.Degrees.{Sofar}
 use Rattle.choice.specs.Drawing.{arcs, vertexCount, selectable}
-use Rattle.choice.specs.Keeping.{unkept, chosenKeeping, keepingChoice}
+use Rattle.choice.specs.Keeping.{unkept, chosenKeeping}
 use Rattle.choice.proofs.Fits.{proper-bounded}
 use Rattle.choice.proofs.Keeping.{stuck-refuses}
-use Rattle.choice.proofs.Sets.{and-left, and-right, both, has-lt, size-some, size-without}
+use Rattle.choice.proofs.Sets.{and-left, and-right, both, size-some, size-without}
 use Rattle.choice.proofs.Sofar.{sofar-best}
-use Rattle.scan.specs.Tables.{mostNodes, remains, left, degrees, nought, loose, worthIn}
-use Rattle.scan.specs.Sweeps.{Telling, State}
+use Rattle.scan.specs.Tables.{remains, left, degrees, loose, worthIn}
+use Rattle.scan.specs.Sweeps.{State}
 use Rattle.scan.specs.Stages.{Top, betterOf}
 use Rattle.scan.specs.declared.Best.{Best}
 use Rattle.scan.proofs.Tables.{tight-nought, degrees-set, loose-gone, loose-same}
-use Rattle.scan.proofs.Going.{Drawn, few-degrees, nought-neither, is-left, left-is, set-left, set-right, set-marks}
+use Rattle.scan.proofs.Going.{Drawn, few-degrees, nought-neither, is-left, set-left, set-right, set-marks}
 
 -- ---- one pass
 

@@ -3,29 +3,29 @@
 -- Assumes nothing.
 use mathlib.Core.Path.{_≡_, refl, sym, ap, _∙_, subst}
 use mathlib.Core.Bool.{Bool, true, false, _&&_, _||_, not, cond, false≢true}
-use mathlib.Core.List.{List, [], _∷_, _++_, List·Memᴰ·head, List·Memᴰ·tail, Memᴰ·append-left, Memᴰ·append-right}
+use mathlib.Core.List.{List, [], _∷_, _++_, Memᴰ·append-left, Memᴰ·append-right}
 use mathlib.Core.Logic.{_⊎_, inl, inr, ⊎-elim, _↔_, _≢_}
-use Prim.Native.Nat.{ℕ, zero, suc, _+_, _*_, _/_, _%_, _^_, _≤_, _<_}
+use Prim.Native.Nat.{ℕ, suc, _+_, _*_, _/_, _%_, _^_, _≤_, _<_}
 use native.Mathlib.Decide.{ℕ-discrete}
 use native.Mathlib.Nat.{eq-zero-or-pos, add-zero, mod-add-div, add-mul-mod-self-left, mod-eq-of-lt}
 use native.Mathlib.Omega.{arith}
 use lib.Dec.{T, eqb, eqb→eq}
 use lib.ListN.{length, getD, set, take, length-set}
-use lib.Seq.{getD-set-same, getD-set-other, take-set-le}
-use borrow.Author.Tests.{eqb-true, eqb-false, eq-eqb, ne-eqb, not-true, not-false}
+use lib.Seq.{getD-set-same, getD-set-other}
+use borrow.Author.Tests.{eqb-true, eqb-false}
 use Rattle.le.specs.Le.{Below}
-use Rattle.le.proofs.Numbers.{below-front, below-back, below-append, below-widen}
+use Rattle.le.proofs.Numbers.{below-widen}
 use Rattle.graph.specs.Form.{noEdge}
-use Rattle.graph.specs.Graph.{Edge, Graph, Proper, ports, edgeEntries}
+use Rattle.graph.specs.Graph.{Graph, Proper, ports}
 use Rattle.graph.specs.Lists.{among}
-use Rattle.choice.specs.Arcs.{Arc, In, bump, howMany, Set, has, without, size, into, out, Loose}
+use Rattle.choice.specs.Arcs.{In, bump, howMany, Set, has, without, into, out, Loose}
 use Rattle.choice.specs.Degrees.{Sofar}
 use Rattle.choice.specs.Drawing.{arcs, vertexCount}
 use Rattle.choice.specs.Keeping.{unkept}
 use Rattle.choice.proofs.Degrees.{both-degrees, is-true}
 use Rattle.choice.proofs.Fits.{fits-apart, proper-fits}
 use Rattle.choice.proofs.Scores.{length-arcs}
-use Rattle.choice.proofs.Sets.{gone, without-subset, howMany-some, size-without}
+use Rattle.choice.proofs.Sets.{gone, without-subset, howMany-some}
 use Rattle.choice.proofs.Sofar.{sofar-loose}
 use Rattle.choice.proofs.Sweeps.{edge-into, edge-out, edge-goes, node-goes}
 use Rattle.scan.specs.Tables.{mostNodes, mostVertices, remains, left, someLeft, degrees, nought, shiftedAll, lessIn, lessOut, loose, tested, testedAll, wentOf, lowered, mustGo}

@@ -3,11 +3,10 @@
 use mathlib.Core.Path.{_≡_, refl, sym, ap, _∙_, subst}
 use mathlib.Core.Bool.{Bool, true, false, _||_}
 use mathlib.Core.List.{List, [], _∷_, _++_}
-use Prim.Native.Nat.{ℕ, zero, suc, _+_, _-_, _%_, _≤_, _<_}
+use Prim.Native.Nat.{ℕ, _+_, _-_, _%_, _≤_, _<_}
 use native.Mathlib.Numerals.{add-one}
 use native.Mathlib.Omega.{arith}
-use lib.Dec.{eqb}
-use lib.ListN.{length, getD, set, length-set}
+use lib.ListN.{getD, set}
 use borrow.Author.Tests.{eq-eqb, ne-eqb}
 use Rattle.le.specs.Le.{Below}
 use Rattle.le.specs.Rows.{entry, span}
@@ -15,7 +14,7 @@ use Rattle.le.specs.declared.Row.{Row}
 use Rattle.le.proofs.Numbers.{below-at}
 use Rattle.le.proofs.Rows.{length-span, span-at, span-next, span-append}
 use Rattle.choice.specs.Arcs.{bump}
-use Rattle.scan.specs.Tables.{remains, someLeft, keptIn, shifted, shiftedAll, loose, tested, testedAll, wentOf, upTo}
+use Rattle.scan.specs.Tables.{someLeft, keptIn, shifted, shiftedAll, loose, tested, testedAll, wentOf, upTo}
 use Rattle.scan.proofs.Tables.{shifts-next, tests-next, went-next, some-next, some-append}
 
 module _ (b : List ℕ) (r : Row) (first count j : ℕ) (x : ℕ) (is : x ≡ entry b r (first + j)) where

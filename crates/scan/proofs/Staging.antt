@@ -1,13 +1,10 @@
 -- The stages: what holds between two of them, how one ends them, and what is answered at the end.
 -- Assumes nothing.
-use mathlib.Core.Path.{_≡_, refl, sym, ap, _∙_, subst}
-use mathlib.Core.Bool.{Bool, true, false}
+use mathlib.Core.Path.{_≡_, sym, ap, _∙_, subst}
 use mathlib.Core.List.{List, [], _∷_}
 use mathlib.Core.Logic.{_↔_}
-use Prim.Native.Nat.{ℕ, suc, _+_, _≤_, _<_}
-use native.Mathlib.Omega.{arith}
-use lib.Dec.{T}
-use lib.ListN.{length, getD, set, length-set}
+use Prim.Native.Nat.{ℕ, _+_, _≤_, _<_}
+use lib.ListN.{length, getD, set}
 use Rattle.graph.specs.Answer.{Answer, refused, answered, refusal}
 use Rattle.graph.specs.Graph.{Graph}
 use Rattle.graph.proofs.Steps.{never, same-answer}
@@ -21,7 +18,7 @@ use Rattle.choice.proofs.Sofar.{sofar-done}
 use Rattle.form.specs.Form.{numbered}
 use Rattle.form.specs.declared.Step.the-variants as step
 use Rattle.scan.specs.Tables.{left}
-use Rattle.scan.specs.Sweeps.{State, Moves, Rests}
+use Rattle.scan.specs.Sweeps.{State, Rests}
 use Rattle.scan.specs.Stages.{Top, freeOf, ChosenIn, Begun}
 use Rattle.scan.specs.declared.Best.{Best}
 use Rattle.scan.proofs.Going.{Drawn}

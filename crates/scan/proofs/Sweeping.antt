@@ -2,10 +2,10 @@
 -- Assumes nothing.
 use mathlib.Core.Path.{_≡_, refl, sym, ap, _∙_, subst}
 use mathlib.Core.Bool.{Bool, true, false, _&&_, not, cond, false≢true}
-use mathlib.Core.List.{List, [], _∷_, _++_}
+use mathlib.Core.List.{List, _++_}
 use mathlib.Core.Logic.{_⊎_, inl, inr, ⊎-elim}
-use Prim.Native.Nat.{ℕ, zero, suc, _+_, _-_, _≤_, _<_}
-use native.Mathlib.Decide.{ℕ-discrete, decLt}
+use Prim.Native.Nat.{ℕ, suc, _+_, _-_, _≤_, _<_}
+use native.Mathlib.Decide.{decLt}
 use native.Mathlib.Nat.{eq-zero-or-pos, eq-or-lt-of-le, add-zero, not-suc-le-zero}
 use native.Mathlib.Omega.{arith}
 use lib.Dec.{T, ltb}
@@ -15,12 +15,12 @@ use Rattle.le.specs.Le.{Below}
 use Rattle.le.proofs.Numbers.{below-append, below-widen}
 use Rattle.graph.specs.Form.{noEdge}
 use Rattle.graph.specs.Graph.{Graph}
-use Rattle.choice.specs.Arcs.{bump, howMany, Set, has, without, size, into, out, Stable}
+use Rattle.choice.specs.Arcs.{bump, Set, has, size, into, out, Stable}
 use Rattle.choice.specs.Drawing.{arcs, vertexCount}
 use Rattle.choice.proofs.Degrees.{howMany-length}
 use Rattle.choice.proofs.Sets.{gone, without-subset, has-lt, size-without}
 use Rattle.choice.proofs.Sweeps.{edge-into, edge-out}
-use Rattle.scan.specs.Tables.{mostNodes, remains, left, someLeft, degrees, testedAll, wentOf, lowered, mustGo, visited, visitedOf}
+use Rattle.scan.specs.Tables.{remains, left, someLeft, degrees, testedAll, wentOf, lowered, mustGo, visited, visitedOf}
 use Rattle.scan.specs.Sweeps.{Telling, State, Moves, Settled, Swept, Sweeps, start, another, Rests}
 use Rattle.scan.proofs.Tables.{length-left, tight-nought, tests-tight, went-size, went-none, some-count, some-same}
 use Rattle.scan.proofs.Going.{Drawn, few-degrees, nought-neither, is-left, left-is, edge-there, edge-telling, lowered-long, lowered-mark, lowered-left, lowered-nodes, lowered-loose, tests-telling}

@@ -1,24 +1,23 @@
 -- Laws of the two tables: which vertices remain, the word of a node, and both after each small step.
 -- Assumes nothing.
 use mathlib.Core.Path.{_≡_, refl, sym, ap, _∙_, subst}
-use mathlib.Core.Bool.{Bool, true, false, _&&_, _||_, not, cond, false≢true}
+use mathlib.Core.Bool.{Bool, true, false, _&&_, _||_, cond, false≢true}
 use mathlib.Core.List.{List, [], _∷_, _++_, map, List·Memᴰ·not-nil, List·Memᴰ·cases-cons}
-use mathlib.Core.Logic.{_⊎_, inl, inr, ⊎-elim, _≢_}
-use Prim.Native.Nat.{ℕ, zero, suc, _+_, _*_, _/_, _%_, _^_, _≤_, _<_}
+use mathlib.Core.Logic.{⊎-elim, _≢_}
+use Prim.Native.Nat.{ℕ, zero, suc, _+_, _*_, _%_, _^_, _≤_, _<_}
 use native.Mathlib.Decide.{ℕ-discrete}
 use native.Mathlib.Nat.{mul-suc, mul-zero, not-suc-le-zero, le-of-suc-le-suc}
 use native.Mathlib.Omega.{arith}
 use lib.Dec.{T, eqb}
-use lib.ListN.{length, getD, set, take, drop, length-map, length-set}
-use lib.Seq.{sets, length-sets, length-take-le, getD-take, getD-set-same, getD-set-other, drop-set-lt, take-set-le, take-take}
-use borrow.Author.Tests.{eqb-true, eqb-false, eq-eqb, ne-eqb}
-use Rattle.le.specs.Le.{Below, bytes, words, numberAt, number}
+use lib.ListN.{length, getD, set, take, length-map, length-set}
+use lib.Seq.{length-sets, length-take-le, getD-take, getD-set-same, getD-set-other, drop-set-lt, take-set-le, take-take}
+use borrow.Author.Tests.{eq-eqb, ne-eqb}
+use Rattle.le.specs.Le.{Below, bytes, words, number}
 use Rattle.le.proofs.Places.{length-words, getD-words, set-words}
 use Rattle.le.proofs.Stores.{take-sets-le}
 use Rattle.choice.specs.Arcs.{In, bump, howMany, Set, has, without, size}
 use Rattle.choice.proofs.Sets.{size-without}
-use Rattle.choice.proofs.Degrees.{is-true}
-use Rattle.scan.specs.Tables.{mostNodes, mostVertices, degreesAt, remains, left, someLeft, keptIn, degrees, nought, shifted, shiftedAll, loose, tested, testedAll, wentOf, upTo, lowered}
+use Rattle.scan.specs.Tables.{mostNodes, mostVertices, degreesAt, remains, left, someLeft, degrees, nought, shifted, shiftedAll, loose, tested, testedAll, wentOf}
 
 -- ---- what remains
 

@@ -1,7 +1,6 @@
 -- `scan::better` meets its contract.
 -- Assumes nothing.
 use mathlib.Core.Path.{sym, ap}
-use mathlib.Core.Bool.{Bool}
 use borrow.Author.Tests.{lt-ltb, le-ltb}
 use Rattle.scan.specs.Stages.{betterOf}
 use Rattle.scan.proofs.better.Statement.{statement}

@@ -1,14 +1,12 @@
 -- `scan::count_edges` meets its contract.
 -- Assumes nothing.
-use mathlib.Core.Path.{_≡_, refl, sym, ap, _∙_, subst}
-use mathlib.Core.List.{List}
-use Prim.Native.Nat.{ℕ, _+_, _-_, _≤_, _<_}
+use mathlib.Core.Path.{_≡_, refl, _∙_, subst}
+use Prim.Native.Nat.{ℕ, _-_, _≤_}
 use native.Mathlib.Nat.{le-antisymm}
 use native.Mathlib.Omega.{arith}
-use lib.ListN.{length, getD}
 use denote.Ref.{now}
 use Rattle.le.proofs.Rows.{holds-less, holds-index}
-use Rattle.graph.specs.Form.{noEdge, edgeStart}
+use Rattle.graph.specs.Form.{edgeStart}
 use Rattle.form.specs.Stored.{graphOf}
 use Rattle.form.proofs.Stored.{stored-rows}
 use Rattle.scan.specs.Tables.{shiftedAll}

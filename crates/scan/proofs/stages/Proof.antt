@@ -1,19 +1,19 @@
 -- `scan::stages` meets its contract.
 -- Assumes nothing.
-use mathlib.Core.Path.{_≡_, refl, sym, ap, _∙_, subst}
+use mathlib.Core.Path.{_≡_, refl, _∙_, subst}
 use mathlib.Core.List.{List}
 use mathlib.Core.Logic.{⊎-elim}
-use Prim.Native.Nat.{ℕ, _+_, _-_, _≤_, _<_}
+use Prim.Native.Nat.{ℕ, _+_, _≤_, _<_}
 use native.Mathlib.Nat.{eq-zero-or-pos}
 use native.Mathlib.Omega.{arith}
-use lib.ListN.{length, set, length-set}
+use lib.ListN.{length, length-set}
 use denote.Ref.{now}
 use Rattle.form.specs.Stored.{graphOf}
 use Rattle.choice.specs.Arcs.{size}
 use Rattle.choice.specs.Drawing.{vertexCount}
 use Rattle.scan.specs.Tables.{left}
 use Rattle.scan.specs.Stages.{Top, Begun}
-use Rattle.scan.proofs.Form.{is-nodes, is-edges, is-all, drawn}
+use Rattle.scan.proofs.Form.{is-nodes, is-all, drawn}
 use Rattle.scan.proofs.Choosing.{pick-size}
 use Rattle.scan.proofs.Staging.{Run, run-start, run-stuck, run-turn, run-done}
 use Rattle.scan.proofs.stages.Statement.{statement}

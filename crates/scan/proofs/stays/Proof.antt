@@ -2,8 +2,7 @@
 -- Assumes nothing.
 use mathlib.Core.Path.{_≡_, refl, sym, ap, _∙_}
 use mathlib.Core.Bool.{Bool, true, false, _&&_, not}
-use mathlib.Core.List.{List}
-use Prim.Native.Nat.{ℕ, _+_, _%_}
+use Prim.Native.Nat.{_+_, _%_}
 use native.Mathlib.Omega.{arith}
 use lib.ListN.{getD}
 use denote.Ref.{now}
@@ -11,7 +10,7 @@ use borrow.Author.Needs.{needs}
 use borrow.Author.Tests.{eq-eqb, ne-eqb, not-true, not-false}
 use Rattle.le.specs.Rows.{span}
 use Rattle.le.proofs.Rows.{holds-less, holds-index}
-use Rattle.scan.specs.Tables.{remains, someLeft}
+use Rattle.scan.specs.Tables.{someLeft}
 use Rattle.scan.proofs.stays.Statement.{statement}
 use Rattle.scan.proofs.stays.Tie as tie
 

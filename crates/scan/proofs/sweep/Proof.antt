@@ -1,17 +1,14 @@
 -- `scan::sweep` meets its contract.
 -- Assumes nothing.
-use mathlib.Core.Path.{_≡_, refl, sym, ap, _∙_, subst}
-use mathlib.Core.List.{List}
-use Prim.Native.Nat.{ℕ, _+_, _-_, _≤_, _<_}
+use mathlib.Core.Path.{_≡_, refl, _∙_, subst}
+use Prim.Native.Nat.{ℕ, _+_, _-_, _≤_}
 use native.Mathlib.Nat.{le-antisymm}
 use native.Mathlib.Omega.{arith}
-use lib.Dec.{ltb}
 use lib.ListN.{length, getD}
 use denote.Ref.{now}
 use Rattle.graph.specs.Form.{noEdge, edgeStart}
 use Rattle.form.specs.Stored.{graphOf}
 use Rattle.form.proofs.Stored.{stored-rows}
-use Rattle.choice.specs.Arcs.{bump}
 use Rattle.choice.specs.Drawing.{vertexCount}
 use Rattle.scan.specs.Tables.{visited, visitedOf}
 use Rattle.scan.specs.Sweeps.{Swept}

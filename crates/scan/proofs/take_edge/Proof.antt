@@ -1,17 +1,16 @@
 -- `scan::take_edge` meets its contract.
 -- Assumes nothing.
-use mathlib.Core.Path.{_≡_, refl, sym, ap, _∙_, subst}
-use mathlib.Core.List.{List, _++_}
+use mathlib.Core.Path.{_≡_, sym, ap, _∙_, subst}
 use Prim.Native.Nat.{ℕ, _+_}
 use native.Mathlib.Omega.{arith}
-use lib.ListN.{length, set, length-set}
+use lib.ListN.{length-set}
 use denote.Ref.{now}
 use borrow.Author.Needs.{needs}
 use Rattle.le.specs.Le.{Below}
 use Rattle.le.specs.Rows.{span}
 use Rattle.le.proofs.Numbers.{below-append}
 use Rattle.le.proofs.Rows.{holds-less, holds-index, span-append}
-use Rattle.scan.specs.Tables.{mostNodes, shiftedAll, lessIn, lessOut, lowered, testedAll, wentOf}
+use Rattle.scan.specs.Tables.{mostNodes, shiftedAll, lessIn, lowered, testedAll, wentOf}
 use Rattle.scan.proofs.take_edge.Statement.{statement}
 use Rattle.scan.proofs.take_edge.Tie as tie
 

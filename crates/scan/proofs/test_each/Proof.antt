@@ -1,12 +1,11 @@
 -- `scan::test_each` meets its contract.
 -- Assumes nothing.
-use mathlib.Core.Path.{_≡_, refl, ap, _∙_, subst}
-use Prim.Native.Nat.{ℕ, _+_, _-_, _≤_, _<_}
+use mathlib.Core.Path.{_≡_, refl, _∙_, subst}
+use Prim.Native.Nat.{ℕ, _-_, _≤_}
 use native.Mathlib.Nat.{le-antisymm}
 use native.Mathlib.Omega.{arith}
 use lib.ListN.{length}
 use denote.Ref.{now}
-use borrow.Author.Needs.{needs}
 use Rattle.le.specs.Rows.{span}
 use Rattle.le.proofs.Rows.{holds-less, holds-index}
 use Rattle.scan.specs.Tables.{mostNodes, loose, testedAll, wentOf}
