@@ -196,9 +196,9 @@ static void check_repeats(struct desk *d, const struct call *c, const struct out
     if (2 * len > LIST_MOST) return;
     for (size_t i = 0; i < 2 * len; i += width) memcpy(turned + i, c->list[0].at + (2 * len - width - i) % len, width);
     struct lent l;
-    uint64_t returned = follow(d, KEEPING, c->src, (struct slice){turned, 2 * len}, &l);
+    uint64_t returned = follow(d, c->function, c->src, (struct slice){turned, 2 * len}, &l);
     if (returned != o->returned || memcmp(answered(d, &l, 0), o->bytes[0], o->len[0]) != 0)
-        fail(functions[KEEPING].name, "repeats and order have no effect");
+        fail(functions[c->function].name, "repeats and order have no effect");
 }
 
 /* With no kept nodes it is the choice without them. */
@@ -206,7 +206,7 @@ static void check_none_kept(struct desk *d, const struct call *c, const struct o
     struct lent l;
     uint64_t returned = follow(d, CHOOSE, c->src, (struct slice){0}, &l);
     if (returned != o->returned || memcmp(answered(d, &l, 0), o->bytes[0], o->len[0]) != 0)
-        fail(functions[KEEPING].name, "with no kept nodes it is as before");
+        fail(functions[c->function].name, "with no kept nodes it is as before");
 }
 
 /* The list is the choice of keep.c, as far as it is known, and has no kept node. */
@@ -269,6 +269,14 @@ static void check_loop(struct desk *d, const struct call *c, const struct outcom
         if (get(o->bytes[0] + width * i, width) != w.visits[steps - count + i]) fail(f->name, "it shows the loop that the walk closes");
 }
 
+/* The second engine answers what the first does, whatever it is given. */
+static void check_engines(struct desk *d, const struct call *c, const struct outcome *o) {
+    struct lent l;
+    uint64_t returned = follow(d, KEEPING, c->src, c->list[0], &l);
+    if (returned != o->returned || memcmp(answered(d, &l, 0), o->bytes[0], o->len[0]) != 0)
+        fail(functions[c->function].name, "both engines answer the same");
+}
+
 /* The call with the buffers that the case names: the same answer, or 10 where one is too short. */
 static void call_again(struct desk *d, const struct call *c, const struct outcome *o) {
     const struct function *f = &functions[c->function];
@@ -326,6 +334,8 @@ void run_case(struct desk *d, const struct call *c, struct outcome *o) {
     bool merges = c->function == QUOTIENT || ((c->function == SPIDERIZE || c->function == SPIDERIZE_NODES) && g.pairs);
     if (merges && !g.refused) check_merging(d, c, o);
     if (OHG_CODE(o->returned) == OHG_DONE) check_answer(d, c, o, &g);
-    if (c->function == KEEPING && !g.refused) check_keeping(d, c, o, &g);
+    bool keeps = c->function == KEEPING || c->function == SCANNING;
+    if (keeps && !g.refused) check_keeping(d, c, o, &g);
+    if (c->function == SCANNING) check_engines(d, c, o);
     current = NULL;
 }

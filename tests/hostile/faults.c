@@ -22,6 +22,10 @@ uint64_t __real_ohg_cycle_breaking_nodes_keeping(const uint8_t *src, size_t src_
                                                  size_t list_len, uint8_t *room, size_t room_len);
 uint64_t __wrap_ohg_cycle_breaking_nodes_keeping(const uint8_t *src, size_t src_len, const uint8_t *kept, size_t kept_len, uint8_t *list,
                                                  size_t list_len, uint8_t *room, size_t room_len);
+uint64_t __real_ohg_cycle_breaking_nodes_scanning(const uint8_t *src, size_t src_len, const uint8_t *kept, size_t kept_len, uint8_t *list,
+                                                  size_t list_len, uint8_t *room, size_t room_len);
+uint64_t __wrap_ohg_cycle_breaking_nodes_scanning(const uint8_t *src, size_t src_len, const uint8_t *kept, size_t kept_len, uint8_t *list,
+                                                  size_t list_len, uint8_t *room, size_t room_len);
 uint64_t __real_ohg_find_loop(const uint8_t *src, size_t src_len, uint8_t *list, size_t list_len, uint8_t *room, size_t room_len);
 uint64_t __wrap_ohg_find_loop(const uint8_t *src, size_t src_len, uint8_t *list, size_t list_len, uint8_t *room, size_t room_len);
 uint64_t __real_ohg_spiderize(const uint8_t *src, size_t src_len, uint8_t *out, size_t out_len, uint8_t *room, size_t room_len);
@@ -451,6 +455,101 @@ uint64_t __wrap_ohg_cycle_breaking_nodes_keeping(const uint8_t *src, size_t src_
     case 75: return done && kept_len && OHG_B(r) ? r - (1ull << 32) : r;
     }
     return r;
+}
+
+static uint64_t scan_as(struct given g, uint8_t *list, size_t list_len, uint8_t *room, size_t room_len) {
+    return __real_ohg_cycle_breaking_nodes_scanning(g.form.at, g.form.len, g.kept.at, g.kept.len, list, list_len, room, room_len);
+}
+
+/* Ids counted from the last one down. */
+static void mirror(uint8_t *at, size_t count, uint32_t width, uint32_t nodes) {
+    for (; count--; at += width) put(at, nodes - 1 - get(at, width), width);
+}
+
+/* A graph and its kept list with the ids counted from the last one down, so that the port gives a tie to the later one. */
+static struct given mirrored(struct given was) {
+    static uint8_t kept[LIST_MOST];
+    uint32_t width = ohg_width(was.form.at, was.form.len), nodes = count_of(was.form.at, was.form.len, 0), edges = count_of(was.form.at, was.form.len, 1);
+    uint8_t *form = changed(was.form.at, was.form.len), *at = form + edges_at(form, was.form.len), *end = form + was.form.len;
+    while (edges--) {
+        uint32_t ports = get(at, width) + get(at + width, width);
+        mirror(at + 2 * width, ports, width, nodes);
+        at += (2 + ports) * width;
+    }
+    mirror(at, (end - at) / width, width, nodes);
+    memcpy(kept, was.kept.at, was.kept.len);
+    mirror(kept, was.kept.len / width, width, nodes);
+    return (struct given){{form, was.form.len}, {kept, was.kept.len}};
+}
+
+/* The choice with ties given to the later id. */
+static uint64_t later_on_tie(struct given was, uint8_t *list, size_t list_len, uint8_t *room, size_t room_len) {
+    static uint8_t from_last[OHG_LIST_BYTES];
+    uint32_t width = ohg_width(was.form.at, was.form.len), nodes = count_of(was.form.at, was.form.len, 0);
+    uint64_t r = scan_as(mirrored(was), from_last, list_len < sizeof from_last ? list_len : sizeof from_last, room, room_len);
+    uint32_t ids = OHG_CODE(r) ? 0 : OHG_A(r);
+    mirror(from_last, ids, width, nodes);
+    for (uint32_t i = 0; i < ids; i++) memcpy(list + width * i, from_last + width * (ids - 1 - i), width);
+    return r;
+}
+
+/* A form in which each list of an edge has an id once, so that repeated entries are not counted. */
+static struct slice once_each(const uint8_t *src, size_t src_len) {
+    uint32_t width = ohg_width(src, src_len), edges = count_of(src, src_len, 1);
+    uint8_t *form = changed(src, src_len), *at = form + edges_at(src, src_len);
+    const uint8_t *from = src + edges_at(src, src_len), *end = src + src_len;
+    while (edges--) {
+        uint8_t *counts = at;
+        uint32_t count[] = {get(from, width), get(from + width, width)};
+        from += 2 * width;
+        at += 2 * width;
+        for (int side = 0; side < 2; side++) {
+            uint8_t *first = at;
+            for (; count[side]--; from += width) {
+                if (lists((struct slice){first, at - first}, width, get(from, width))) continue;
+                memcpy(at, from, width);
+                at += width;
+            }
+            put(counts + width * side, (at - first) / width, width);
+        }
+    }
+    memcpy(at, from, end - from);
+    return (struct slice){form, at + (end - from) - form};
+}
+
+/* One node more is chosen, as if a sweep had not found it loose: the first that is neither kept nor in the list. */
+static uint64_t one_more(struct given g, uint64_t r, uint8_t *list, size_t list_len) {
+    uint32_t width = ohg_width(g.form.at, g.form.len), nodes = count_of(g.form.at, g.form.len, 0), at = 0, more = 0;
+    size_t len = width * OHG_A(r);
+    while (more < nodes && (lists(g.kept, width, more) || lists((struct slice){list, len}, width, more))) more++;
+    if (more == nodes || list_len < len + width) return r;
+    while (at < OHG_A(r) && get(list + width * at, width) < more) at++;
+    memmove(list + width * (at + 1), list + width * at, len - width * at);
+    put(list + width * at, more, width);
+    return r + (1ull << 8) - (1ull << 32);
+}
+
+uint64_t __wrap_ohg_cycle_breaking_nodes_scanning(const uint8_t *src, size_t src_len, const uint8_t *kept, size_t kept_len, uint8_t *list,
+                                                  size_t list_len, uint8_t *room, size_t room_len) {
+    static uint8_t other[OHG_LIST_BYTES];
+    struct given g = {{(uint8_t *)src, src_len}, {(uint8_t *)kept, kept_len}}, none = g;
+    none.kept.len = 0;
+    uint8_t before = room_len ? room[room_len - 1] : 0;
+    uint64_t r = planted() >= 76 && planted() <= 85 ? scan_as(g, other, sizeof other, room, room_len) : OHG_DONE;
+    bool done = OHG_CODE(r) == OHG_DONE, blocked = OHG_CODE(r) == OHG_KEPT_CYCLE;
+    switch (planted()) {
+    case 76: return scan_as(done ? none : g, list, list_len, room, room_len); /* kept nodes are chosen */
+    case 77: return scan_as(blocked ? none : g, list, list_len, room, room_len); /* 16 never */
+    case 78: return done ? later_on_tie(g, list, list_len, room, room_len) : r;
+    case 79: if (done) g.form = once_each(src, src_len); return scan_as(g, list, list_len, room, room_len);
+    case 80: r = scan_as(g, list, list_len, room, room_len); return OHG_CODE(r) == OHG_DONE && OHG_B(r) ? one_more(g, r, list, list_len) : r; /* a sweep too few */
+    case 81: return room_len < OHG_ROOM_CYCLE_BREAKING_NODES_KEEPING ? OHG_SHORT_BUFFER : scan_as(g, list, list_len, room, room_len); /* as much room as the first engine */
+    case 82: r = scan_as(g, list, list_len, room, room_len); return OHG_CODE(r) == OHG_DONE && OHG_B(r) && before & 1 ? r - (1ull << 32) : r; /* what the room held counts */
+    case 83: r = scan_as(g, list, list_len, room, room_len); return OHG_CODE(r) == OHG_BAD_LIST ? placed(r, 0) : r; /* no place in 7 */
+    case 84: return blocked && list_len < ohg_width(src, src_len) ? OHG_SHORT_BUFFER : scan_as(g, list, list_len, room, room_len); /* 10 before 16 */
+    case 85: if (done) g.form = freed(src, src_len, g.kept); return scan_as(g, list, list_len, room, room_len); /* kept nodes go at once */
+    }
+    return scan_as(g, list, list_len, room, room_len);
 }
 
 /* Answers these vertices and so many steps, where they fit. */

@@ -31,6 +31,7 @@ FUNCTION(once_fed, SRC, ROOM)
 FUNCTION(quotient, SRC, OUT, MAP, ROOM)
 FUNCTION(cycle_breaking_nodes_keeping, SRC, LIST0, OUT, ROOM)
 FUNCTION(find_loop, SRC, OUT, ROOM)
+FUNCTION(cycle_breaking_nodes_scanning, SRC, LIST0, OUT, ROOM)
 
 enum { DONE = 1 << 0, FORM_1_TO_6 = 0x7E, BAD_LIST = 1 << 7, PAIR = 1 << 8, LIMIT = 1 << 9, SHORT = 1 << 10, DIFFER = 1 << 11, OTHER_FORM = 1 << 13, KEPT = 1 << 16 };
 #define ALWAYS (DONE | SHORT)
@@ -63,4 +64,6 @@ const struct function functions[FUNCTIONS] = {
     {"ohg_cycle_breaking_nodes_keeping", cycle_breaking_nodes_keeping, true, NO_NUMBER, NODES, 1, 1, LIST, FREE,
      ROOM_OF(CYCLE_BREAKING_NODES_KEEPING), READS | BAD_LIST | PAIR | KEPT},
     {"ohg_find_loop", find_loop, true, NO_NUMBER, NO_LIST, 0, 1, LOOP, STEPS, ROOM_OF(FIND_LOOP), READS | PAIR},
+    {"ohg_cycle_breaking_nodes_scanning", cycle_breaking_nodes_scanning, true, NO_NUMBER, NODES, 1, 1, LIST, FREE,
+     ROOM_OF(CYCLE_BREAKING_NODES_SCANNING), READS | BAD_LIST | PAIR | KEPT},
 };

@@ -16,7 +16,7 @@
 #endif
 #endif
 
-enum { FUNCTIONS = 22, CODES = 17, LISTS = 2, OUTS = 2, LENGTHS = OUTS + 1, FITS = 8, GUARD = 256 };
+enum { FUNCTIONS = 23, CODES = 17, LISTS = 2, OUTS = 2, LENGTHS = OUTS + 1, FITS = 8, GUARD = 256 };
 
 /* The most bytes that are lent: more than any of them has a use for. */
 enum { SRC_MOST = 700000, LIST_MOST = 1 << 19, OUT_MOST = OHG_FORM_BYTES + 1024, ROOM_MOST = OHG_ROOM_CYCLE_BREAKING_NODES + 4096 };
@@ -54,7 +54,7 @@ struct function {
 
 extern const struct function functions[FUNCTIONS];
 
-enum { READ = 0, REWRITE = 1, DISCRETE = 3, DELETE_NODES = 13, SPIDERIZE = 14, SPIDERIZE_NODES = 15, CHOOSE = 16, NO_LOOP = 17, QUOTIENT = 19, KEEPING = 20, FIND_LOOP = 21 };
+enum { READ = 0, REWRITE = 1, DISCRETE = 3, DELETE_NODES = 13, SPIDERIZE = 14, SPIDERIZE_NODES = 15, CHOOSE = 16, NO_LOOP = 17, QUOTIENT = 19, KEEPING = 20, FIND_LOOP = 21, SCANNING = 22 };
 
 /* ---- record.c: a call as the bytes of a file ---- */
 

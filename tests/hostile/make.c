@@ -284,7 +284,7 @@ struct call make_call(struct maker *m) {
         for (int i = 0; i < 2; i++) counts[i] = get(m->src + 5 + width * i, width);
     make_numbers(r, &c, counts);
     for (int i = 0; i < LISTS; i++) c.list[i] = (struct slice){m->list[i], i < f->lists ? make_list(m, m->list[i], f->entries, counts, width) : 0};
-    if (c.function == KEEPING && one_in(r, 2)) c.list[0].len = make_kept(m, m->list[0], counts[0], width);
+    if ((c.function == KEEPING || c.function == SCANNING) && one_in(r, 2)) c.list[0].len = make_kept(m, m->list[0], counts[0], width);
     return c;
 }
 

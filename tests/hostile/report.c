@@ -70,12 +70,12 @@ static bool is_refusal(int code) {
 }
 
 void print_counts(uint64_t counts[FUNCTIONS][CODES]) {
-    printf("%-32s %11s", "calls by returned code", "0");
+    printf("%-33s %11s", "calls by returned code", "0");
     for (int code = 1; code < CODES; code++)
         if (is_refusal(code)) printf(" %9d", code);
     printf("\n");
     for (int i = 0; i < FUNCTIONS; i++) {
-        printf("%-32s %11llu", functions[i].name, (unsigned long long)counts[i][0]);
+        printf("%-33s %11llu", functions[i].name, (unsigned long long)counts[i][0]);
         for (int code = 1; code < CODES; code++)
             if (is_refusal(code)) printf(" %9llu", (unsigned long long)counts[i][code]);
         printf("\n");
