@@ -8,6 +8,7 @@ use crate::operation::{Forms, Function, Group};
 use crate::port::Port;
 use crate::rng::Rng;
 use crate::rooms::Rooms;
+use crate::rows::choice::ENGINES;
 use crate::rows::spidering::chain;
 use crate::rows::{functions, GROUPS};
 use crate::show::show;
@@ -16,6 +17,9 @@ use std::mem::{discriminant, Discriminant};
 
 /// The highest refusal number.
 const MOST_CODE: usize = 16;
+
+/// A quick run asks the second engine only what takes it up to about so many steps.
+const QUICK_STEPS: usize = 20_000_000;
 
 /// How much is tried.
 #[derive(Clone, Copy)]
@@ -30,6 +34,7 @@ pub struct Run {
     port: Port,
     pub rng: Rng,
     functions: BTreeMap<u8, Function>,
+    full: bool,
     passed: u64,
     failed: u64,
     /// For each function's number, how many calls were to be answered (0) and refused by each number.
@@ -48,10 +53,21 @@ pub fn shares() -> u64 {
     groups + chain::SHARE
 }
 
+/// About how many steps the second engine takes: for each node that is chosen, or may be before 16, it passes over the drawing.
+fn sweeping_steps(arguments: &Arguments, outcome: &Outcome) -> usize {
+    let Ok(sizes) = form::sizes(arguments.graph()) else {
+        return 0;
+    };
+    let stages = outcome
+        .as_ref()
+        .map_or(sizes.nodes, |answer| answer.a as usize);
+    (1 + stages) * (sizes.nodes + sizes.edges + sizes.ports)
+}
+
 /// Compares everything, and says whether all agreed.
 pub fn run(seed: u64, amount: Amount) -> Result<bool, String> {
     println!("seed {seed}");
-    let mut run = Run::start(seed)?;
+    let mut run = Run::start(seed, amount.full)?;
     for group in GROUPS {
         let before = run.calls();
         let forms = run.group(group, amount);
@@ -67,7 +83,7 @@ pub fn run(seed: u64, amount: Amount) -> Result<bool, String> {
 }
 
 impl Run {
-    fn start(seed: u64) -> Result<Self, String> {
+    fn start(seed: u64, full: bool) -> Result<Self, String> {
         let rooms = Rooms::read()?;
         let mut by_number = BTreeMap::new();
         for group in GROUPS {
@@ -80,6 +96,7 @@ impl Run {
             port: Port::start(names)?,
             rng: Rng::new(seed),
             functions: by_number,
+            full,
             passed: 0,
             failed: 0,
             codes: BTreeMap::new(),
@@ -104,6 +121,7 @@ impl Run {
         let functions: Vec<Function> = group
             .operations
             .iter()
+            .filter(|operation| operation.number != ENGINES[1])
             .map(|operation| self.function(operation.number))
             .collect();
         for function in &functions {
@@ -160,24 +178,44 @@ impl Run {
     /// Calls with every length of answer buffers and work room.
     fn all_lengths(&mut self, function: &Function, arguments: Arguments) {
         let outcome = (function.operation.expected)(&arguments);
-        let calls = function.calls(arguments, &outcome, &mut self.rng);
-        for call in &calls {
-            self.call(function, call, function.due(call, &outcome));
+        for function in self.engines(function, &arguments, &outcome) {
+            let calls = function.calls(arguments.clone(), &outcome, &mut self.rng);
+            for call in &calls {
+                self.call(&function, call, function.due(call, &outcome));
+            }
+            self.call_behind(&function, &calls[0], &outcome);
         }
-        self.call_behind(function, &calls[0], &outcome);
     }
 
     /// The exact call, and once in four times another one.
     fn some_lengths(&mut self, function: &Function, arguments: Arguments) {
         let outcome = (function.operation.expected)(&arguments);
-        if self.rng.once_in(4) {
-            let calls = function.calls(arguments.clone(), &outcome, &mut self.rng);
-            let call = self.rng.pick(&calls);
-            self.call(function, &call, function.due(&call, &outcome));
+        for function in self.engines(function, &arguments, &outcome) {
+            if self.rng.once_in(4) {
+                let calls = function.calls(arguments.clone(), &outcome, &mut self.rng);
+                let call = self.rng.pick(&calls);
+                self.call(&function, &call, function.due(&call, &outcome));
+            }
+            let exact = function.exact(arguments.clone(), &outcome);
+            self.call(&function, &exact, function.due(&exact, &outcome));
+            self.call_behind(&function, &exact, &outcome);
         }
-        let exact = function.exact(arguments, &outcome);
-        self.call(function, &exact, function.due(&exact, &outcome));
-        self.call_behind(function, &exact, &outcome);
+    }
+
+    /// The function and, where it is the first engine's, the second's, which is due the same: but in a quick run not on what
+    /// would take it long.
+    pub fn engines(
+        &self,
+        function: &Function,
+        arguments: &Arguments,
+        outcome: &Outcome,
+    ) -> Vec<Function> {
+        let mut functions = vec![*function];
+        let is_first = function.operation.number == ENGINES[0];
+        if is_first && (self.full || sweeping_steps(arguments, outcome) <= QUICK_STEPS) {
+            functions.push(self.function(ENGINES[1]));
+        }
+        functions
     }
 
     /// Where a count has broken its limit, the call again with other bytes behind that count, all or one: they must not matter.

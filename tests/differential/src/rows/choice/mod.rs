@@ -1,4 +1,4 @@
-//! The choice of cycle-breaking nodes, without kept nodes and with them, the search for a loop, and the no-loop check.
+//! The choice of cycle-breaking nodes, without kept nodes and with them, by both engines, the search for a loop, and the no-loop check.
 
 pub mod definition;
 pub mod families;
@@ -56,6 +56,15 @@ const OPERATIONS: &[Operation] = &[
         expected: keeping::cycle_breaking_nodes_keeping,
     },
     Operation {
+        number: 21,
+        name: "ohg_cycle_breaking_nodes_scanning",
+        parameters: &[Input, Input, Answered, Room],
+        refusals: &[1, 2, 3, 4, 5, 6, 13, 7, 8, 16, 10],
+        picked: keeping::picked,
+        arguments: keeping::graph_and_kept_list,
+        expected: keeping::cycle_breaking_nodes_keeping,
+    },
+    Operation {
         number: 22,
         name: "ohg_find_loop",
         parameters: &[Input, Answered, Room],
@@ -65,6 +74,9 @@ const OPERATIONS: &[Operation] = &[
         expected: showing::find_loop,
     },
 ];
+
+/// The first engine's function, and that of the second, which is asked whatever the first is and due the same.
+pub const ENGINES: [u8; 2] = [20, 21];
 
 /// 1 to 6, 13 and 8.
 pub fn unpaired(arguments: &Arguments) -> Checked<Graph> {

@@ -121,7 +121,7 @@ fn spiderize_on(run: &mut Run, form: &[u8]) {
     }
 }
 
-/// The exact call of a function: its answer, where it has one and the port gave the same.
+/// The exact call of a function, and the second engine's beside the first's: its answer, where it has one and the port gave the same.
 fn answered(run: &mut Run, number: u8, arguments: Arguments) -> Option<Answer> {
     called(run, number, arguments)?.ok()
 }
@@ -130,7 +130,10 @@ fn answered(run: &mut Run, number: u8, arguments: Arguments) -> Option<Answer> {
 fn called(run: &mut Run, number: u8, arguments: Arguments) -> Option<Outcome> {
     let function = run.function(number);
     let outcome = (function.operation.expected)(&arguments);
-    let call = function.exact(arguments, &outcome);
-    let agreed = run.call(&function, &call, function.due(&call, &outcome));
+    let mut agreed = true;
+    for function in run.engines(&function, &arguments, &outcome) {
+        let call = function.exact(arguments.clone(), &outcome);
+        agreed &= run.call(&function, &call, function.due(&call, &outcome));
+    }
     agreed.then_some(outcome)
 }
