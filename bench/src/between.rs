@@ -114,7 +114,10 @@ fn call_at(address: usize, name: &str) -> Result<Call, String> {
                 unsafe { f(s.0, s.1, 0, list.0, list.1, list.0, list.1, out.0, out.1) }
             })
         }
-        "ohg_delete_edges" | "ohg_spiderize_nodes" | "ohg_cycle_breaking_nodes_keeping" => {
+        "ohg_delete_edges"
+        | "ohg_spiderize_nodes"
+        | "ohg_cycle_breaking_nodes_keeping"
+        | "ohg_cycle_breaking_nodes_scanning" => {
             let f = function!(
                 *const u8,
                 usize,

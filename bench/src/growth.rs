@@ -18,6 +18,7 @@ use crate::once_fed::once_fed;
 use crate::plot::{self, Line, Panel};
 use crate::port;
 use crate::reading::{read, rewrite};
+use crate::scanning::scanning;
 use crate::showing::find_loop;
 use crate::sides::Times;
 use crate::spidering::{spiderize, spiderize_nodes, Listed};
@@ -45,7 +46,7 @@ const WITHOUT_ROOM: [(&str, Inputs, Times); 12] = [
     ("ohg_add_edge_target", TO_ADD_TO, add_edge_target),
 ];
 
-const IN_ROOM: [(&str, Inputs, TimesInRoom); 15] = [
+const IN_ROOM: [(&str, Inputs, TimesInRoom); 16] = [
     ("ohg_delete_edges", RANDOM, delete_edges),
     ("ohg_delete_nodes", RANDOM, delete_nodes),
     ("ohg_quotient", JOINED, quotient),
@@ -57,6 +58,7 @@ const IN_ROOM: [(&str, Inputs, TimesInRoom); 15] = [
     ("ohg_spiderize_nodes", EIGHTH_OF_JOINED, spiderize_eighth),
     ("ohg_cycle_breaking_nodes", BARE, cycle_breaking_nodes),
     ("ohg_cycle_breaking_nodes_keeping", KEEPING, keeping_a_tenth),
+    ("ohg_cycle_breaking_nodes_scanning", BARE, scanning),
     ("ohg_find_loop", BARE, find_loop),
     ("ohg_find_loop", RINGS, find_loop),
     ("ohg_no_loop", TREES, no_loop),

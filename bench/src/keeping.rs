@@ -29,7 +29,7 @@ mod exported {
     }
 }
 
-fn ohg_cycle_breaking_nodes_keeping(
+pub fn ohg_cycle_breaking_nodes_keeping(
     src: &[u8],
     kept: &[u8],
     list: &mut [u8],

@@ -1,5 +1,5 @@
 //! Measures each exported function beside the original and plain Rust, on the same inputs in one process, and prints
-//! tables for docs/MEASURES.md; or, by `growth FILE.svg`, how the time of each grows with its drawing; or, by `between
+//! tables for docs/MEASURES.md; or, by `scanning`, the second engine beside the first; or, by `growth FILE.svg`, how the time of each grows with its drawing; or, by `between
 //! BEFORE.a NOW.a`, two builds of the port beside each other; or, by `calls ARCHIVE.a NAME TIMES`, nothing: it only makes
 //! the calls.
 //!
@@ -20,6 +20,7 @@ mod once_fed;
 mod plot;
 mod port;
 mod reading;
+mod scanning;
 mod showing;
 mod sides;
 mod spidering;
@@ -35,13 +36,14 @@ fn main() -> ExitCode {
     let arguments: Vec<String> = env::args().skip(1).collect();
     let measured = match &arguments[..] {
         [] => measure(),
+        [mode] if mode == "scanning" => scanning::measure(),
         [mode, file] if mode == "growth" => growth::measure(file),
         [mode, before, now] if mode == "between" => between::measure(before, now),
         [mode, archive, name, times] if mode == "calls" => {
             between::make_calls(archive, name, times)
         }
         _ => Err(
-            "usage: cargo run --release [-- growth FILE.svg | -- between BEFORE.a NOW.a | -- calls ARCHIVE.a NAME TIMES]"
+            "usage: cargo run --release [-- scanning | -- growth FILE.svg | -- between BEFORE.a NOW.a | -- calls ARCHIVE.a NAME TIMES]"
                 .to_string(),
         ),
     };
