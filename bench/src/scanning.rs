@@ -154,10 +154,22 @@ fn worst_drawings(most: Sizes) -> Vec<Worst> {
         none("a way into a loop, edges against it", &against),
         none("a way, edges against both its ends", &from_the_middle(last)),
         none("a ladder", &ladder(most.nodes as u32)),
-        stays("edges that stay", most, 0, 0),
-        stays("edges that stay, gone entries in front", most, 1, 0),
-        stays("the same, half the edges gone", most, 1, 2),
-        stays("the same, gone entries by 16", most, 16, 2),
+        stays("edges that stay", most, [most.nodes - 2, 0, 0]),
+        stays(
+            "the same, gone entries in front",
+            most,
+            [most.nodes * 5 / 8, 1, 0],
+        ),
+        stays(
+            "the same, half the edges gone",
+            most,
+            [most.nodes - 2, 1, 2],
+        ),
+        stays(
+            "the same, gone entries by 16",
+            most,
+            [most.nodes - 2, 16, 2],
+        ),
     ]
 }
 
@@ -192,14 +204,14 @@ fn ladder(nodes: u32) -> Vec<Edge> {
     (0..half).flat_map(rung).collect()
 }
 
-/// A stage for each node: an edge has all of them. The others lead from a kept node to itself and stay to the end, which is
-/// 16. In front of that node are entries of one that has gone, by so many, as many times as heads in a row are tossed; and one
-/// edge in so many has none and goes at once. So a processor can't foresee what a sweep finds.
-fn stays(name: &'static str, most: Sizes, by: usize, one_in: usize) -> Worst {
+/// So many stages: an edge has a node for each. The other edges lead from a kept node to itself and stay to the end, which is 16.
+/// In front of that node are entries of one that has gone, by so many, as many times as heads in a row are tossed; and one edge
+/// in so many has none and goes at once. So a processor can't foresee what a sweep finds.
+fn stays(name: &'static str, most: Sizes, [stages, by, one_in]: [usize; 3]) -> Worst {
     let mut rng = Rng::new(1);
     let [gone, kept] = [most.nodes as u32 - 2, most.nodes as u32 - 1];
-    let chosen: Vec<u32> = (0..gone).collect();
-    let mut left = most.ports - 2 * chosen.len();
+    let chosen: Vec<u32> = (0..stages as u32).collect();
+    let mut left = most.ports - 2 * stages;
     let mut edges = vec![];
     for after in (0..most.edges - 1).rev() {
         if left < 2 || (one_in > 0 && rng.once_in(one_in)) {
