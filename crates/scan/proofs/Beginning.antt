@@ -12,10 +12,9 @@ use lib.Dec.{T, eqb}
 use lib.ListN.{length, getD, set, take, replicate, length-set, length-replicate, getD-replicate}
 use lib.Seq.{sets, length-sets, getD-set-same, getD-set-other, take-all, ext-getD}
 use borrow.Author.Tests.{eqb-true, eqb-false}
-use Rattle.le.specs.Le.{Below, words}
+use Rattle.le.specs.Le.{Below}
 use Rattle.le.proofs.Frames.{outside-sets}
 use Rattle.le.proofs.Numbers.{below-widen, below-append}
-use Rattle.le.proofs.Places.{number-four, getD-words}
 use Rattle.le.proofs.Tables.{getD-sets}
 use Rattle.graph.specs.Form.{noEdge}
 use Rattle.graph.specs.Graph.{Edge, Graph, edgeSources, edgeTargets}
@@ -23,6 +22,7 @@ use Rattle.graph.specs.Lists.{among, joined}
 use Rattle.graph.proofs.Laws.{joined-append}
 use Rattle.graph.proofs.Rows.{take-edges}
 use Rattle.choice.specs.Arcs.{In, howMany, Set, vertices, size}
+use Rattle.choice.specs.Calls.{roomCycleBreakingNodesScanning}
 use Rattle.choice.proofs.Sets.{size-vertices}
 use Rattle.choice.specs.Degrees.{Sofar}
 use Rattle.choice.specs.Drawing.{arcs, vertexCount}
@@ -33,18 +33,13 @@ use Rattle.choice.specs.Arcs as choice
 use Rattle.scan.specs.Tables.{mostNodes, mostVertices, degreesAt, remains, left, keptIn, degrees, shiftedAll, testedAll, wentOf, upTo}
 use Rattle.scan.specs.Sweeps.{Telling, State, Rests}
 use Rattle.scan.specs.Stages.{Counted, Prepared, Begun}
-use Rattle.scan.proofs.Tables.{has-left, length-left, mark-same, degrees-set, shifts-long, shifts-marks, shifts-degrees, tests-tight, went-size}
+use Rattle.scan.proofs.Tables.{has-left, length-left, mark-same, word-is, degrees-set, shifts-long, shifts-marks, shifts-degrees, tests-tight, went-size}
 use Rattle.scan.proofs.Going.{Drawn, tests-telling}
 
 -- ---- words that are not written to, and those that are 0
 
--- a word, byte by byte
-word-is : (room : List ℕ) → 98304 ≤ length room → (u : ℕ) → u < mostNodes → let i = 4 * (degreesAt + u) in
-    degrees room u ≡ getD room i 0 + 256 * (getD room (i + 1) 0 + 256 * (getD room (i + 2) 0 + 256 * getD room (i + 3) 0))
-word-is room long u l = getD-words room (degreesAt + u) (omega arith) ∙ number-four room (4 * (degreesAt + u)) (omega arith)
-
 -- stores among the marks
-pub degrees-front : (room : List ℕ) → 98304 ≤ length room → (l : List ℕ) → length l ≤ mostVertices → (u : ℕ) → u < mostNodes → degrees (sets room 0 l) u ≡ degrees room u
+pub degrees-front : (room : List ℕ) → roomCycleBreakingNodesScanning ≤ length room → (l : List ℕ) → length l ≤ mostVertices → (u : ℕ) → u < mostNodes → degrees (sets room 0 l) u ≡ degrees room u
 degrees-front room long l few u less =
     let o = outside-sets 0 mostVertices room 0 l (omega arith) (omega arith) in
     let i = 4 * (degreesAt + u) in
@@ -53,14 +48,14 @@ degrees-front room long l few u less =
     ∙ sym (word-is room long u less)
 
 -- all bytes cleared
-pub degrees-clear : (room : List ℕ) → 98304 ≤ length room → (u : ℕ) → u < mostNodes → degrees (sets room 0 (replicate 98304 0)) u ≡ 0
-degrees-clear room long u less = word-is (sets room 0 (replicate 98304 0)) (omega (arith, length-sets room 0 (replicate {A = ℕ} 98304 0))) u less
+pub degrees-clear : (room : List ℕ) → roomCycleBreakingNodesScanning ≤ length room → (u : ℕ) → u < mostNodes → degrees (sets room 0 (replicate roomCycleBreakingNodesScanning 0)) u ≡ 0
+degrees-clear room long u less = word-is (sets room 0 (replicate roomCycleBreakingNodesScanning 0)) (omega (arith, length-sets room 0 (replicate {A = ℕ} roomCycleBreakingNodesScanning 0))) u less
     ∙ (λ j. none (4 * (degreesAt + u)) (omega arith) j + 256 * (none (4 * (degreesAt + u) + 1) (omega arith) j + 256 * (none (4 * (degreesAt + u) + 2) (omega arith) j + 256 * none (4 * (degreesAt + u) + 3) (omega arith) j)))
   where
-    none : (i : ℕ) → i < 98304 → getD (sets room 0 (replicate 98304 0)) i 0 ≡ 0
+    none : (i : ℕ) → i < roomCycleBreakingNodesScanning → getD (sets room 0 (replicate roomCycleBreakingNodesScanning 0)) i 0 ≡ 0
     none i h =
-        ap (λ (k : ℕ). getD (sets room 0 (replicate 98304 0)) k 0) (sym (zero-add i))
-        ∙ getD-sets room 0 (replicate 98304 0) i (omega (arith, length-replicate {A = ℕ} 98304 0)) (omega (arith, length-replicate {A = ℕ} 98304 0)) ∙ getD-replicate 98304 i 0 0 h
+        ap (λ (k : ℕ). getD (sets room 0 (replicate roomCycleBreakingNodesScanning 0)) k 0) (sym (zero-add i))
+        ∙ getD-sets room 0 (replicate roomCycleBreakingNodesScanning 0) i (omega (arith, length-replicate {A = ℕ} roomCycleBreakingNodesScanning 0)) (omega (arith, length-replicate {A = ℕ} roomCycleBreakingNodesScanning 0)) ∙ getD-replicate roomCycleBreakingNodesScanning i 0 0 h
 
 -- ---- kept nodes
 
@@ -68,7 +63,7 @@ pub kept-long : (room vs : List ℕ) → length (keptIn room vs) ≡ length room
 kept-long room [] = refl
 kept-long room (v ∷ vs) = kept-long (set room v 3) vs ∙ length-set room v 3
 
-kept-degrees : (room : List ℕ) → 98304 ≤ length room → (vs : List ℕ) → Below mostNodes vs → (u : ℕ) → u < mostNodes → degrees (keptIn room vs) u ≡ degrees room u
+kept-degrees : (room : List ℕ) → roomCycleBreakingNodesScanning ≤ length room → (vs : List ℕ) → Below mostNodes vs → (u : ℕ) → u < mostNodes → degrees (keptIn room vs) u ≡ degrees room u
 kept-degrees room long [] low u l = refl
 kept-degrees room long (v ∷ vs) low u l = kept-degrees (set room v 3) (omega (arith, length-set room v 3)) vs (low .1) u l ∙ degrees-set room long v 3 u (omega (arith, low .0)) l
 
@@ -107,7 +102,7 @@ module _ (g : Graph) (d : Drawn g) where
   abbrev n : ℕ
   n = vertexCount g
 
-  pub counted-turn : (old room new : List ℕ) (i : ℕ) → i < length (g .edges) → 98304 ≤ length old → Counted g old room i
+  pub counted-turn : (old room new : List ℕ) (i : ℕ) → i < length (g .edges) → roomCycleBreakingNodesScanning ≤ length old → Counted g old room i
       → new ≡ shiftedAll 1 (getD (g .edges) i noEdge .targets) (shiftedAll 65536 (getD (g .edges) i noEdge .sources) room) → Counted g old new (i + 1)
   counted-turn old room new i less long c is =
       let s = getD (g .edges) i noEdge .sources in
@@ -131,20 +126,20 @@ module _ (g : Graph) (d : Drawn g) where
 
   -- ---- the whole
 
-  module _ (room : List ℕ) (long : 98304 ≤ length room) (ids : List ℕ) (low : Below nodes ids) where
+  module _ (room : List ℕ) (long : roomCycleBreakingNodesScanning ≤ length room) (ids : List ℕ) (low : Below nodes ids) where
     clear : List ℕ
-    clear = sets room 0 (replicate 98304 0)
+    clear = sets room 0 (replicate roomCycleBreakingNodesScanning 0)
 
     abbrev marked : List ℕ
-    marked = sets (sets room 0 (replicate 98304 0)) 0 (replicate n 1)
+    marked = sets (sets room 0 (replicate roomCycleBreakingNodesScanning 0)) 0 (replicate n 1)
 
-    long-clear : 98304 ≤ length (sets room 0 (replicate 98304 0))
-    long-clear = omega (arith, length-sets room 0 (replicate {A = ℕ} 98304 0))
+    long-clear : roomCycleBreakingNodesScanning ≤ length (sets room 0 (replicate roomCycleBreakingNodesScanning 0))
+    long-clear = omega (arith, length-sets room 0 (replicate {A = ℕ} roomCycleBreakingNodesScanning 0))
 
-    long-marked : 98304 ≤ length marked
-    long-marked = omega (arith, long-clear, length-sets (sets room 0 (replicate 98304 0)) 0 (replicate {A = ℕ} n 1))
+    long-marked : roomCycleBreakingNodesScanning ≤ length marked
+    long-marked = omega (arith, long-clear, length-sets (sets room 0 (replicate roomCycleBreakingNodesScanning 0)) 0 (replicate {A = ℕ} n 1))
 
-    long-kept : 98304 ≤ length (keptIn marked ids)
+    long-kept : roomCycleBreakingNodesScanning ≤ length (keptIn marked ids)
     long-kept = omega (arith, long-marked, kept-long marked ids)
 
     -- no entry is counted yet
@@ -155,7 +150,7 @@ module _ (g : Graph) (d : Drawn g) where
       marks = refl;
       words = λ u l.
           kept-degrees marked long-marked ids (below-widen ids (d .few-nodes) low) u (omega (arith, d .few-nodes))
-          ∙ degrees-front (sets room 0 (replicate 98304 0)) long-clear (replicate n 1) (omega (arith, length-replicate {A = ℕ} n 1, d .few)) u (omega (arith, d .few-nodes))
+          ∙ degrees-front (sets room 0 (replicate roomCycleBreakingNodesScanning 0)) long-clear (replicate n 1) (omega (arith, length-replicate {A = ℕ} n 1, d .few)) u (omega (arith, d .few-nodes))
           ∙ degrees-clear room long u (omega (arith, d .few-nodes));
     }
 
@@ -163,7 +158,7 @@ module _ (g : Graph) (d : Drawn g) where
     mark-is v l =
         kept-mark marked ids v (omega (arith, long-marked, d .few))
         ∙ ap (cond (among ids v) 3) (ap (λ (k : ℕ). getD marked k 0) (sym (zero-add v))
-        ∙ getD-sets (sets room 0 (replicate 98304 0)) 0 (replicate n 1) v (omega (arith, length-replicate {A = ℕ} n 1)) (omega (arith, length-replicate {A = ℕ} n 1, d .few, long-clear)) ∙ getD-replicate n v 1 0 l)
+        ∙ getD-sets (sets room 0 (replicate roomCycleBreakingNodesScanning 0)) 0 (replicate n 1) v (omega (arith, length-replicate {A = ℕ} n 1)) (omega (arith, length-replicate {A = ℕ} n 1, d .few, long-clear)) ∙ getD-replicate n v 1 0 l)
 
     odd : (b : Bool) → remains (cond b 3 1) ≡ true
     odd true = refl
@@ -174,7 +169,7 @@ module _ (g : Graph) (d : Drawn g) where
     not-two false e = omega arith
 
     module _ (new : List ℕ) (c : Counted g (keptIn marked ids) new (length (g .edges))) where
-      long-new : 98304 ≤ length new
+      long-new : roomCycleBreakingNodesScanning ≤ length new
       long-new = omega (arith, long-kept, c .long)
 
       new-mark : (v : ℕ) → v < n → getD new v 0 ≡ cond (among ids v) 3 1
@@ -216,7 +211,7 @@ module _ (g : Graph) (d : Drawn g) where
   up-low m zero l = tt
   up-low m (suc k) l = below-append m (upTo k) (k ∷ []) (up-low m k (omega arith)) (omega arith, tt)
 
-  module _ (kept room : List ℕ) (long : 98304 ≤ length room) (p : Prepared kept g room) where
+  module _ (kept room : List ℕ) (long : roomCycleBreakingNodesScanning ≤ length room) (p : Prepared kept g room) where
     state : State kept g (testedAll (upTo nodes) room) [] (wentOf (upTo nodes) room)
     state = record {
       telling = subst (Telling kept g (testedAll (upTo nodes) room) []) (zero-add (wentOf (upTo nodes) room)) (tests-telling g d kept [] (upTo nodes) room long (up-low nodes nodes (omega arith)) 0 (p .telling));

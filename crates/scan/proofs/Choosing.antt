@@ -16,6 +16,7 @@ use Rattle.graph.specs.Answer.{refused, refusal}
 use Rattle.graph.specs.Graph.{Graph}
 use Rattle.graph.specs.Lists.{among}
 use Rattle.choice.specs.Arcs.{In, Set, has, size, into, out, Stable}
+use Rattle.choice.specs.Calls.{roomCycleBreakingNodesScanning}
 use Rattle.choice.specs.Choice as choice
 use Rattle.choice.specs.Choice.{score}
 use Rattle.choice.specs.Degrees.{Sofar}
@@ -75,14 +76,14 @@ worth-mark room v f = go (eqb (getD room v 0) 1) refl f
     go false e h = absurd (h refl)
 
 -- it is one of those that remain
-pub pick-size : (g : Graph) (d : Drawn g) (room : List ℕ) → 98304 ≤ length room → (b : Best) → Top room (length (g .labels)) b → (b .score ≡ 0 → ⊥)
+pub pick-size : (g : Graph) (d : Drawn g) (room : List ℕ) → roomCycleBreakingNodesScanning ≤ length room → (b : Best) → Top room (length (g .labels)) b → (b .score ≡ 0 → ⊥)
     → suc (size (left (vertexCount g) (set room (b .node) 2))) ≡ size (left (vertexCount g) room)
 pick-size g d room long b top f =
     let low = top .is f .0 in
     let mark = worth-mark room (b .node) (λ z. f (sym (top .is f .1) ∙ z)) in
     ap (λ (U : Set). suc (size U)) (set-left g d room long (b .node) 2 low (ap remains mark) refl) ∙ size-without (b .node) (left (vertexCount g) room) (is-left g d room long (b .node) (omega (arith, low)) (ap remains mark))
 
-module _ (g : Graph) (d : Drawn g) (room : List ℕ) (long : 98304 ≤ length room) (kept picked : List ℕ) (free : ℕ) (s : State kept g room picked free) where
+module _ (g : Graph) (d : Drawn g) (room : List ℕ) (long : roomCycleBreakingNodesScanning ≤ length room) (kept picked : List ℕ) (free : ℕ) (s : State kept g room picked free) where
   abbrev nodes : ℕ
   nodes = length (g .labels)
 

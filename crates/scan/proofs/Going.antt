@@ -19,6 +19,7 @@ use Rattle.graph.specs.Form.{noEdge}
 use Rattle.graph.specs.Graph.{Graph, Proper, ports}
 use Rattle.graph.specs.Lists.{among}
 use Rattle.choice.specs.Arcs.{In, bump, howMany, Set, has, without, into, out, Loose}
+use Rattle.choice.specs.Calls.{roomCycleBreakingNodesScanning}
 use Rattle.choice.specs.Degrees.{Sofar}
 use Rattle.choice.specs.Drawing.{arcs, vertexCount}
 use Rattle.choice.specs.Keeping.{unkept}
@@ -101,7 +102,7 @@ module _ (g : Graph) (d : Drawn g) where
       let many : length (arcs g) ≡ ports g = unfold arcs in length-arcs nodes (g .edges) in
       omega (arith, own, many, d .few-ports)
 
-  module _ (room : List ℕ) (long : 98304 ≤ length room) where
+  module _ (room : List ℕ) (long : roomCycleBreakingNodesScanning ≤ length room) where
     pub is-left : (v : ℕ) → v < n → remains (getD room v 0) ≡ true → T (has (left n room) v)
     is-left v l e = subst T (sym (has-left n room v l (omega (arith, d .few)) ∙ e)) tt
 
@@ -261,7 +262,7 @@ module _ (g : Graph) (d : Drawn g) where
 
   -- ---- the nodes of a list
 
-  pub tests-telling : (kept picked : List ℕ) (xs room : List ℕ) → 98304 ≤ length room → Below nodes xs → (free : ℕ) → Telling kept g room picked free
+  pub tests-telling : (kept picked : List ℕ) (xs room : List ℕ) → roomCycleBreakingNodesScanning ≤ length room → Below nodes xs → (free : ℕ) → Telling kept g room picked free
       → Telling kept g (testedAll xs room) picked (free + wentOf xs room)
   tests-telling kept picked [] room long low free a = subst (Telling kept g room picked) (sym (add-zero free)) a
   tests-telling kept picked (x ∷ xs) room long low free a =

@@ -2,6 +2,7 @@ pub mod Tables
 pub mod Loops
 pub mod Going
 pub mod Form
+pub mod Hints
 pub mod Sweeping
 pub mod Choosing
 pub mod Beginning

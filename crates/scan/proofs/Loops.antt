@@ -7,14 +7,14 @@ use Prim.Native.Nat.{ℕ, _+_, _-_, _%_, _≤_, _<_}
 use native.Mathlib.Numerals.{add-one}
 use native.Mathlib.Omega.{arith}
 use lib.ListN.{getD, set}
-use borrow.Author.Tests.{eq-eqb, ne-eqb}
+use borrow.Author.Tests.{ne-eqb}
 use Rattle.le.specs.Le.{Below}
 use Rattle.le.specs.Rows.{entry, span}
 use Rattle.le.specs.declared.Row.{Row}
 use Rattle.le.proofs.Numbers.{below-at}
 use Rattle.le.proofs.Rows.{length-span, span-at, span-next, span-append}
 use Rattle.choice.specs.Arcs.{bump}
-use Rattle.scan.specs.Tables.{someLeft, keptIn, shifted, shiftedAll, loose, tested, testedAll, wentOf, upTo}
+use Rattle.scan.specs.Tables.{remains, someLeft, keptIn, shifted, shiftedAll, loose, tested, testedAll, wentOf, upTo}
 use Rattle.scan.proofs.Tables.{shifts-next, tests-next, went-next, some-next, some-append}
 
 module _ (b : List ℕ) (r : Row) (first count j : ℕ) (x : ℕ) (is : x ≡ entry b r (first + j)) where
@@ -35,14 +35,18 @@ module _ (b : List ℕ) (r : Row) (first count j : ℕ) (x : ℕ) (is : x ≡ en
     f .1 ∙ ap (tested x) (e .1) ∙ sym (ap (λ (l : List ℕ). testedAll l old) next ∙ tests-next (span b r first j) x old),
   )
 
-  -- the first one that remains
-  pub some-found : (room : List ℕ) → j < count → getD room x 0 % 2 ≡ 1 → someLeft room (span b r first j) ≡ false → true ≡ someLeft room (span b r first count)
-  some-found room l e h =
+  -- one that remains
+  pub some-found : (room : List ℕ) → j < count → remains (getD room x 0) ≡ true → someLeft room (span b r first count) ≡ true
+  some-found room l e =
       let split : j + 1 + (count - (j + 1)) ≡ count = omega arith in
       let here : someLeft room (span b r first (j + 1)) ≡ true =
-      ap (someLeft room) next ∙ some-next room (span b r first j) x ∙ (λ i. h i || eq-eqb (getD room x 0 % 2) 1 e i) in
-      sym (ap (λ (k : ℕ). someLeft room (span b r first k)) (sym split) ∙ ap (someLeft room) (span-append b r first (j + 1) (count - (j + 1)))
-      ∙ some-append room (span b r first (j + 1)) (span b r (first + (j + 1)) (count - (j + 1))) here)
+      ap (someLeft room) next ∙ some-next room (span b r first j) x ∙ ap (λ (t : Bool). someLeft room (span b r first j) || t) e ∙ last (someLeft room (span b r first j)) in
+      ap (λ (k : ℕ). someLeft room (span b r first k)) (sym split) ∙ ap (someLeft room) (span-append b r first (j + 1) (count - (j + 1)))
+      ∙ some-append room (span b r first (j + 1)) (span b r (first + (j + 1)) (count - (j + 1))) here
+    where
+      last : (t : Bool) → (t || true) ≡ true
+      last true = refl
+      last false = refl
 
   pub none-found : (room : List ℕ) → (getD room x 0 % 2 ≡ 1 → ⊥) → someLeft room (span b r first j) ≡ false → someLeft room (span b r first (j + 1)) ≡ false
   none-found room e h = ap (someLeft room) next ∙ some-next room (span b r first j) x ∙ (λ i. h i || ne-eqb (getD room x 0 % 2) 1 e i)

@@ -9,6 +9,7 @@ use Rattle.graph.specs.Answer.{Answer, refused, answered, refusal}
 use Rattle.graph.specs.Graph.{Graph}
 use Rattle.graph.proofs.Steps.{never, same-answer}
 use Rattle.choice.specs.Arcs.{In, size, Stable}
+use Rattle.choice.specs.Calls.{roomCycleBreakingNodesScanning}
 use Rattle.choice.specs.Choice.{Chosen, Ascends}
 use Rattle.choice.specs.Drawing.{arcs, vertexCount}
 use Rattle.choice.specs.Keeping.{unkept, chosenKeeping}
@@ -40,7 +41,7 @@ refused-in kept g room e = record {
   marked = λ c f. absurd (never (sym e ∙ f));
 }
 
-module _ (g : Graph) (d : Drawn g) (kept room : List ℕ) (long : 98304 ≤ length room) (free : ℕ) (r : Run kept g room free) where
+module _ (g : Graph) (d : Drawn g) (kept room : List ℕ) (long : roomCycleBreakingNodesScanning ≤ length room) (free : ℕ) (r : Run kept g room free) where
   -- nothing that remains may be chosen
   pub run-stuck : (b : Best) → Top room (length (g .labels)) b → b .score ≡ 0 → 0 < size (left (vertexCount g) room) → ChosenIn kept g room (step.Refused (record { no = 16; place = 0 }))
   run-stuck b top z some = refused-in kept g room (stuck g d room long kept (r .picked) free (r .state) b top z (r .stable) some)

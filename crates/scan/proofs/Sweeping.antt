@@ -16,13 +16,15 @@ use Rattle.le.proofs.Numbers.{below-append, below-widen}
 use Rattle.graph.specs.Form.{noEdge}
 use Rattle.graph.specs.Graph.{Graph}
 use Rattle.choice.specs.Arcs.{bump, Set, has, size, into, out, Stable}
+use Rattle.choice.specs.Calls.{roomCycleBreakingNodesScanning}
 use Rattle.choice.specs.Drawing.{arcs, vertexCount}
 use Rattle.choice.proofs.Degrees.{howMany-length}
 use Rattle.choice.proofs.Sets.{gone, without-subset, has-lt, size-without}
 use Rattle.choice.proofs.Sweeps.{edge-into, edge-out}
-use Rattle.scan.specs.Tables.{remains, left, someLeft, degrees, testedAll, wentOf, lowered, mustGo, visited, visitedOf}
+use Rattle.scan.specs.Tables.{Alike, remains, left, someLeft, degrees, testedAll, wentOf, lowered, mustGo, visited, visitedOf}
 use Rattle.scan.specs.Sweeps.{Telling, State, Moves, Settled, Swept, Sweeps, start, another, Rests}
-use Rattle.scan.proofs.Tables.{length-left, tight-nought, tests-tight, went-size, went-none, some-count, some-same}
+use Rattle.scan.proofs.Tables.{length-left, tight-nought, tests-tight, went-size, went-none, some-count, some-same, visit-none}
+use Rattle.scan.proofs.Hints.{swept-alike}
 use Rattle.scan.proofs.Going.{Drawn, few-degrees, nought-neither, is-left, left-is, edge-there, edge-telling, lowered-long, lowered-mark, lowered-left, lowered-nodes, lowered-loose, tests-telling}
 
 -- ---- moves one after the other
@@ -52,7 +54,7 @@ module _ (g : Graph) (d : Drawn g) where
 
   -- ---- one edge
 
-  module _ (room : List ℕ) (long : 98304 ≤ length room) (i : ℕ) (less : i < length (g .edges)) where
+  module _ (room : List ℕ) (long : roomCycleBreakingNodesScanning ≤ length room) (i : ℕ) (less : i < length (g .edges)) where
     abbrev sources : List ℕ
     sources = getD (g .edges) i noEdge .sources
 
@@ -76,11 +78,7 @@ module _ (g : Graph) (d : Drawn g) where
 
     -- it stays
     stays-new : mustGo sources targets v room ≡ false → (new ≡ room) × (k ≡ 0)
-    unfolding visited visitedOf
-    stays-new e = (
-      ap (λ (b : Bool). cond b (testedAll (sources ++ targets) after) room) e,
-      ap (λ (b : Bool). cond b (suc (wentOf (sources ++ targets) after)) 0) e,
-    )
+    stays-new e = visit-none sources targets v room e
 
     -- it goes
     goes-new : mustGo sources targets v room ≡ true → (new ≡ testedAll (sources ++ targets) after) × (k ≡ suc (wentOf (sources ++ targets) after))
@@ -90,7 +88,7 @@ module _ (g : Graph) (d : Drawn g) where
       ap (λ (b : Bool). cond b (suc (wentOf (sources ++ targets) after)) 0) e,
     )
 
-    long-after : mustGo sources targets v room ≡ true → 98304 ≤ length after
+    long-after : mustGo sources targets v room ≡ true → roomCycleBreakingNodesScanning ≤ length after
     long-after e = omega (arith, lowered-long g d room long i less e (d .known i less .0) (d .known i less .1))
 
     edge-moves : mustGo sources targets v room ≡ true → Moves g room (testedAll (sources ++ targets) after) (suc (wentOf (sources ++ targets) after))
@@ -184,7 +182,7 @@ module _ (g : Graph) (d : Drawn g) where
   pub swept-start : (room : List ℕ) → Swept g room room 0 0 0
   swept-start room = record { moves = moves-none g room; few = omega arith; still = λ e i l. absurd (not-suc-le-zero l); nodes = omega arith }
 
-  module _ (old room : List ℕ) (long : 98304 ≤ length room) (i all edges : ℕ) (less : i < length (g .edges)) (s : Swept g old room i all edges) where
+  module _ (old room : List ℕ) (long : roomCycleBreakingNodesScanning ≤ length room) (i all edges : ℕ) (less : i < length (g .edges)) (s : Swept g old room i all edges) where
     m : ℕ
     m = visitedOf (getD (g .edges) i noEdge .sources) (getD (g .edges) i noEdge .targets) (nodes + i) room
 
@@ -225,17 +223,17 @@ module _ (g : Graph) (d : Drawn g) where
         go w j l (yes h) = stay-settled (w .0) j (omega arith) (s .still (w .1) j h)
         go w j l (no h) = let e : i ≡ j = omega arith in subst (Settled g next) e (visit-settled room long i less (w .0))
 
-    -- the same of a room and of counts that are known to be these
-    pub swept-next : (new : List ℕ) (k more sum : ℕ) → new ≡ next → k ≡ visitedOf (getD (g .edges) i noEdge .sources) (getD (g .edges) i noEdge .targets) (nodes + i) room
+    -- the same of a room with these tables, and of counts that are known to be these
+    pub swept-next : (new : List ℕ) (k more sum : ℕ) → roomCycleBreakingNodesScanning ≤ length new → Alike next new → k ≡ visitedOf (getD (g .edges) i noEdge .sources) (getD (g .edges) i noEdge .targets) (nodes + i) room
         → more ≡ all + k → sum ≡ edges + bump (ltb 0 k) 0 → Swept g old new (i + 1) more sum
-    swept-next new k more sum is e p q =
-        subst (λ (r : List ℕ). Swept g old r (i + 1) more sum) (sym is)
+    swept-next new k more sum long-new is e p q =
+        swept-alike g d long-new is (omega arith)
         (subst (λ (x : ℕ). Swept g old next (i + 1) x sum) (sym (p ∙ ap (λ (x : ℕ). all + x) e))
         (subst (Swept g old next (i + 1) (all + visitedOf (getD (g .edges) i noEdge .sources) (getD (g .edges) i noEdge .targets) (nodes + i) room)) (sym (q ∙ ap (λ (x : ℕ). edges + bump (ltb 0 x) 0) e)) swept-turn))
 
   -- ---- nothing is loose
 
-  pub settled-stable : (room : List ℕ) → 98304 ≤ length room → ((i : ℕ) → i < length (g .edges) → Settled g room i)
+  pub settled-stable : (room : List ℕ) → roomCycleBreakingNodesScanning ≤ length room → ((i : ℕ) → i < length (g .edges) → Settled g room i)
       → (kept picked : List ℕ) (free : ℕ) → State kept g room picked free → Stable (arcs g) (left n room)
   settled-stable room long settled kept picked free s u t =
       go (omega (arith, has-lt (left n room) u t, length-left n room (omega (arith, d .few)))) (decLt u nodes)

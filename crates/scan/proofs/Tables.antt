@@ -13,11 +13,12 @@ use lib.ListN.{length, getD, set, take, length-map, length-set}
 use lib.Seq.{length-sets, length-take-le, getD-take, getD-set-same, getD-set-other, drop-set-lt, take-set-le, take-take}
 use borrow.Author.Tests.{eq-eqb, ne-eqb}
 use Rattle.le.specs.Le.{Below, bytes, words, number}
-use Rattle.le.proofs.Places.{length-words, getD-words, set-words}
+use Rattle.le.proofs.Places.{length-words, getD-words, set-words, number-four}
 use Rattle.le.proofs.Stores.{take-sets-le}
 use Rattle.choice.specs.Arcs.{In, bump, howMany, Set, has, without, size}
+use Rattle.choice.specs.Calls.{roomCycleBreakingNodesScanning}
 use Rattle.choice.proofs.Sets.{size-without}
-use Rattle.scan.specs.Tables.{mostNodes, mostVertices, degreesAt, remains, left, someLeft, degrees, nought, shifted, shiftedAll, loose, tested, testedAll, wentOf}
+use Rattle.scan.specs.Tables.{mostNodes, mostVertices, degreesAt, hintsAt, Alike, remains, left, someLeft, degrees, nought, shifted, shiftedAll, loose, tested, testedAll, wentOf, lowered, mustGo, visited, visitedOf}
 
 -- ---- what remains
 
@@ -55,7 +56,12 @@ mark-same old new v h e = sym (getD-take mostVertices new v 0 h) ∙ ap (λ (l :
 
 -- ---- the word of a node
 
-module _ (room : List ℕ) (long : 98304 ≤ length room) where
+-- byte by byte
+pub word-is : (room : List ℕ) → roomCycleBreakingNodesScanning ≤ length room → (u : ℕ) → u < mostNodes → let i = 4 * (degreesAt + u) in
+    degrees room u ≡ getD room i 0 + 256 * (getD room (i + 1) 0 + 256 * (getD room (i + 2) 0 + 256 * getD room (i + 3) 0))
+word-is room long u l = getD-words room (degreesAt + u) (omega arith) ∙ number-four room (4 * (degreesAt + u)) (omega arith)
+
+module _ (room : List ℕ) (long : roomCycleBreakingNodesScanning ≤ length room) where
   -- a mark changes none
   pub degrees-set : (v m u : ℕ) → v < mostVertices → u < mostNodes → degrees (set room v m) u ≡ degrees room u
   degrees-set v m u h l =
@@ -83,6 +89,25 @@ pub shifted-marks : (delta v : ℕ) (room : List ℕ) → take mostVertices (shi
 unfolding shifted
 shifted-marks delta v room = take-sets-le mostVertices (bytes 4 ((degrees room v + delta) % 2 ^ 32)) room (4 * (degreesAt + v)) (omega arith)
 
+-- ---- a hint: no mark and no word depends on one
+
+pub alike-set : (room : List ℕ) (i m : ℕ) → Alike room (set room (hintsAt + i) m)
+alike-set room i m = record { long = length-set room (hintsAt + i) m; tables = take-set-le hintsAt room (hintsAt + i) m (omega arith) }
+
+module _ {old new : List ℕ} (a : Alike old new) where
+  pub alike-marks : take mostVertices new ≡ take mostVertices old
+  alike-marks = sym (take-take mostVertices hintsAt new (omega arith)) ∙ ap (take mostVertices) (a .tables) ∙ take-take mostVertices hintsAt old (omega arith)
+
+  alike-at : (i : ℕ) → i < hintsAt → getD new i 0 ≡ getD old i 0
+  alike-at i h = sym (getD-take hintsAt new i 0 h) ∙ ap (λ (l : List ℕ). getD l i 0) (a .tables) ∙ getD-take hintsAt old i 0 h
+
+  pub alike-degrees : roomCycleBreakingNodesScanning ≤ length new → (u : ℕ) → u < mostNodes → degrees new u ≡ degrees old u
+  alike-degrees long u l =
+      let i = 4 * (degreesAt + u) in
+      word-is new long u l
+      ∙ (λ j. alike-at i (omega arith) j + 256 * (alike-at (i + 1) (omega arith) j + 256 * (alike-at (i + 2) (omega arith) j + 256 * alike-at (i + 3) (omega arith) j)))
+      ∙ sym (word-is old (omega (arith, a .long)) u l)
+
 -- ---- a number added to those of a list
 
 pub shifts-next : (delta : ℕ) (xs : List ℕ) (x : ℕ) (room : List ℕ) → shiftedAll delta (xs ++ (x ∷ [])) room ≡ shifted delta x (shiftedAll delta xs room)
@@ -98,7 +123,7 @@ shifts-marks delta [] room = refl
 shifts-marks delta (x ∷ xs) room = shifts-marks delta xs (shifted delta x room) ∙ shifted-marks delta x room
 
 -- as often as the node stands there
-pub shifts-degrees : (delta u : ℕ) (xs room : List ℕ) → 98304 ≤ length room → Below mostNodes xs → degrees room u < 2 ^ 32
+pub shifts-degrees : (delta u : ℕ) (xs room : List ℕ) → roomCycleBreakingNodesScanning ≤ length room → Below mostNodes xs → degrees room u < 2 ^ 32
     → degrees (shiftedAll delta xs room) u ≡ (degrees room u + delta * howMany (λ x. eqb x u) xs) % 2 ^ 32
 unfolding howMany
 shifts-degrees delta u [] room long low small = omega (arith, mul-zero delta)
@@ -166,7 +191,7 @@ tested-long v room = go (loose room v)
     go false = refl
 
 -- it is loose no more, and the others are as before
-pub tested-loose : (room : List ℕ) → 98304 ≤ length room → (v u : ℕ) → v < mostNodes → u < mostNodes → loose (tested v room) u ≡ true → (loose room u ≡ true) × (u ≢ v)
+pub tested-loose : (room : List ℕ) → roomCycleBreakingNodesScanning ≤ length room → (v u : ℕ) → v < mostNodes → u < mostNodes → loose (tested v room) u ≡ true → (loose room u ≡ true) × (u ≢ v)
 unfolding loose
 tested-loose room long v u low less t = go (loose room v) refl
   where
@@ -220,7 +245,7 @@ went-none (x ∷ xs) room e = go (went-none xs room) (loose room x) refl
         ap (testedAll xs) same ∙ rest (sym (ap (wentOf xs) same) ∙ none)
 
 -- if those that were loose stand in the list, none is loose then
-pub tests-tight : (nodes : ℕ) → nodes ≤ mostNodes → (xs room : List ℕ) → 98304 ≤ length room → Below nodes xs → ((u : ℕ) → u < nodes → loose room u ≡ true → In u xs)
+pub tests-tight : (nodes : ℕ) → nodes ≤ mostNodes → (xs room : List ℕ) → roomCycleBreakingNodesScanning ≤ length room → Below nodes xs → ((u : ℕ) → u < nodes → loose room u ≡ true → In u xs)
     → (u : ℕ) → u < nodes → loose (testedAll xs room) u ≡ false
 tests-tight nodes few [] room long low h u l = go (loose room u) refl
   where
@@ -282,3 +307,11 @@ some-count n room (x ∷ xs) k low h long = go (remains (getD room x 0)) (has-le
         → ((b || someLeft room xs) ≡ false → bump (has (left n room) x) (howMany (has (left n room)) xs) ≡ 0) × ((b || someLeft room xs) ≡ true → 0 < bump (has (left n room) x) (howMany (has (left n room)) xs))
     go true e r = (λ f. absurd (false≢true (sym f)), λ f. rw e (omega arith))
     go false e r = (λ f. rw e (r .0 f), λ f. rw e (r .1 f))
+
+-- ---- an edge that stays when it is visited
+
+pub visit-none : (sources targets : List ℕ) (v : ℕ) (room : List ℕ) → mustGo sources targets v room ≡ false → (visited sources targets v room ≡ room) × (visitedOf sources targets v room ≡ 0)
+unfolding visited visitedOf
+visit-none sources targets v room e =
+    let after = lowered sources targets v room in
+    (ap (λ (b : Bool). cond b (testedAll (sources ++ targets) after) room) e, ap (λ (b : Bool). cond b (suc (wentOf (sources ++ targets) after)) 0) e)

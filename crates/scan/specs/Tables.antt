@@ -1,12 +1,13 @@
 -- The two tables of the scanning engine in a lent room, and what each of its small steps makes of them. A byte for each vertex says whether it remains: an odd one
 -- does, 1 where it may be chosen and 3 where it is kept; 0 has gone, and 2 was chosen. From word 8,192 on a word for each node has its arcs in and 65,536 times
--- its arcs out, among what remains, as far as 32 bits go.
+-- its arcs out, among what remains, as far as 32 bits go. A hint for each edge stands behind the two tables, of which nothing here depends.
 -- Assumes nothing.
+use mathlib.Core.Path.{_≡_}
 use mathlib.Core.Bool.{Bool, false, _&&_, _||_, not, cond}
 use mathlib.Core.List.{List, [], _∷_, _++_, map}
 use Prim.Native.Nat.{ℕ, zero, suc, _+_, _*_, _/_, _%_, _^_}
 use lib.Dec.{eqb}
-use lib.ListN.{getD, set, take}
+use lib.ListN.{length, getD, set, take}
 use lib.Seq.{sets}
 use Rattle.le.specs.Le.{bytes, words}
 use Rattle.choice.specs.Arcs.{bump, Set}
@@ -20,6 +21,18 @@ mostVertices = 32768
 
 abbrev pub degreesAt : ℕ
 degreesAt = 8192
+
+-- the byte at which the degrees end, and so many hints
+abbrev pub hintsAt : ℕ
+hintsAt = 98304
+
+abbrev pub mostEdges : ℕ
+mostEdges = 16384
+
+-- rooms with the same two tables, whatever the hints are
+pub record Alike (old new : List ℕ) : Type 0 where
+  pub long : length new ≡ length old
+  pub tables : take hintsAt new ≡ take hintsAt old
 
 -- ---- marks
 

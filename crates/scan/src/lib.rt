@@ -1,9 +1,10 @@
-// The choice of cycle-breaking nodes without a queue, a waiting list or lists of arcs: one byte for each vertex and the two degrees of each node are all that it keeps.
+// The choice of cycle-breaking nodes without a queue, a waiting list or lists of arcs: one byte for each vertex, the two degrees of each node and a hint for each edge are
+// all that it keeps.
 // An edge has no degrees: its entries that remain are looked up in the form. A sweep passes over the edges; one without a source or without a target that remains goes,
 // and at once those of its nodes that are loose then. A sweep in which no node goes leaves nothing loose; then one pass over the nodes finds the best.
 ghost use mathlib.Core.Path.{_≡_};
 ghost use Prim.Native.Nat.{ℕ, _+_, _*_, _/_, _%_, _<_, _≤_, _^_};
-ghost use mathlib.Core.Bool.{cond, not};
+ghost use mathlib.Core.Bool.{true, false, cond, not};
 ghost use mathlib.Core.List.{List};
 ghost use lib.Dec.{eqb, ltb};
 ghost use lib.ListN.{length, getD, replicate};
@@ -17,7 +18,7 @@ ghost use Rattle.choice.specs.Arcs.{bump, size};
 ghost use Rattle.choice.specs.Drawing.{vertexCount};
 ghost use Rattle.choice.specs.Passing.{shown, shownBelow};
 ghost use Rattle.choice.specs.Calls.{roomCycleBreakingNodesScanning, listing, cycleBreakingNodesScanningCall};
-ghost use Rattle.scan.specs.Tables.{mostNodes, mostVertices, left, someLeft, keptIn, nought, shifted, shiftedAll, loose, tested, testedAll, wentOf, upTo, lowered, mustGo, visited, visitedOf, worthIn};
+ghost use Rattle.scan.specs.Tables.{mostNodes, mostVertices, mostEdges, Alike, left, someLeft, keptIn, nought, shifted, shiftedAll, loose, tested, testedAll, wentOf, upTo, lowered, mustGo, visited, visitedOf, worthIn};
 ghost use Rattle.scan.specs.Sweeps.{Swept, Rests};
 ghost use Rattle.scan.specs.Stages.{Top, betterOf, Counted, Prepared, ChosenIn, Begun, chosenAs, isChosen};
 use form::EdgeAt;
@@ -31,11 +32,17 @@ use le::Row;
 // A byte for each vertex.
 const MARKS: usize = graph::MAX_NODES + graph::MAX_EDGES;
 
-// The bytes of work room that the call needs: these, and then a word for each node.
-pub const ROOM_CYCLE_BREAKING_NODES_SCANNING: usize = MARKS + 4 * graph::MAX_NODES;
-
 // The word of node 0.
 const DEGREES: usize = MARKS / 4;
+
+// Behind a word for each node, the hint of edge 0.
+const HINTS: usize = MARKS + 4 * graph::MAX_NODES;
+
+// The bytes of work room that the call needs: these, and then a byte for each edge.
+pub const ROOM_CYCLE_BREAKING_NODES_SCANNING: usize = HINTS + graph::MAX_EDGES;
+
+// A hint is the index of a source, below this, and this many times the index of a target, both of which were seen to remain.
+const HINT_BASE: usize = 16;
 
 // What an entry adds to its node's word: an arc in or an arc out, and one less of each, modulo 2^32.
 const ARC_IN: u32 = 1;
@@ -192,6 +199,73 @@ fn visit(room: &mut [u8], src: &[u8], r: Row, e: EdgeAt, v: usize) -> usize
     take_edge(room, src, r, e, v)
 }
 
+// Whether there is a node at index k of these, and it remains.
+fn one_left(room: &[u8], src: &[u8], r: Row, first: usize, count: usize, k: usize) -> bool
+    requires { ⌜ Holds (now src) r (first + count) × Below mostNodes (span (now src) r first count) × (roomCycleBreakingNodesScanning ≤ length (now room)) ⌝ }
+    ensures { λ b. ⌜ (b ≡ true → someLeft (now (room .entry)) (span (now (src .entry)) r first count) ≡ true) ⌝ }
+{
+    if count <= k {
+        return false;
+    }
+    let id = le::number(src, r, first + k);
+    room[id] % 2 == 1
+}
+
+// Whether the edge that is vertex v is seen at once to stay: it has gone before, or the source and the target that the hint says remain. The hint may be any number.
+fn is_held(room: &[u8], src: &[u8], r: Row, e: EdgeAt, v: usize, hint: u8) -> bool
+    requires { ⌜ Holds (now src) r (e .first + e .sources + e .targets) × (v < mostVertices) × (roomCycleBreakingNodesScanning ≤ length (now room)) ⌝ }
+    requires { ⌜ Below mostNodes (span (now src) r (e .first) (e .sources)) × Below mostNodes (span (now src) r (e .first + e .sources) (e .targets)) ⌝ }
+    ensures { λ b. ⌜ (b ≡ true → mustGo (span (now (src .entry)) r (e .first) (e .sources)) (span (now (src .entry)) r (e .first + e .sources) (e .targets)) v (now (room .entry)) ≡ false) ⌝ }
+{
+    if room[v] % 2 != 1 {
+        return true;
+    }
+    let h = hint as usize;
+    if !one_left(room, src, r, e.first, e.sources, h % HINT_BASE) {
+        return false;
+    }
+    one_left(room, src, r, e.first + e.sources, e.targets, h / HINT_BASE)
+}
+
+// The index of the first of these nodes that remains, where a hint can say it.
+fn seek(room: &[u8], src: &[u8], r: Row, first: usize, count: usize) -> usize
+    requires { ⌜ Holds (now src) r (first + count) × Below mostNodes (span (now src) r first count) × (roomCycleBreakingNodesScanning ≤ length (now room)) ⌝ }
+    ensures { λ k. ⌜ k < 16 ⌝ }
+{
+    for k in 0..HINT_BASE {
+        if one_left(room, src, r, first, count, k) {
+            return k;
+        }
+    }
+    0
+}
+
+// Writes the hint of edge i.
+fn hold(room: &mut [u8], src: &[u8], r: Row, e: EdgeAt, i: usize)
+    requires { ⌜ Holds (now src) r (e .first + e .sources + e .targets) × (i < mostEdges) × (roomCycleBreakingNodesScanning ≤ length (now room)) ⌝ }
+    requires { ⌜ Below mostNodes (span (now src) r (e .first) (e .sources)) × Below mostNodes (span (now src) r (e .first + e .sources) (e .targets)) ⌝ }
+    ensures { λ _. ⌜ Alike (now (room .entry)) (now (room .exit)) ⌝ }
+{
+    let s = seek(room, src, r, e.first, e.sources);
+    let t = seek(room, src, r, e.first + e.sources, e.targets);
+    room[HINTS + i] = (s + HINT_BASE * t) as u8;
+}
+
+// The same as `visit` of edge i, which is vertex v: its lists are looked through only where its hint does not hold it.
+fn visit_held(room: &mut [u8], src: &[u8], r: Row, e: EdgeAt, v: usize, i: usize) -> usize
+    requires { ⌜ Holds (now src) r (e .first + e .sources + e .targets) × (v < mostVertices) × (i < mostEdges) × (roomCycleBreakingNodesScanning ≤ length (now room)) ⌝ }
+    requires { ⌜ Below mostNodes (span (now src) r (e .first) (e .sources)) × Below mostNodes (span (now src) r (e .first + e .sources) (e .targets)) ⌝ }
+    ensures { λ k. ⌜ k ≡ visitedOf (span (now (src .entry)) r (e .first) (e .sources)) (span (now (src .entry)) r (e .first + e .sources) (e .targets)) v (now (room .entry)) ⌝ }
+    ensures { λ k. ⌜ Alike (visited (span (now (src .entry)) r (e .first) (e .sources)) (span (now (src .entry)) r (e .first + e .sources) (e .targets)) v (now (room .entry))) (now (room .exit)) ⌝ }
+{
+    if is_held(room, src, r, e, v, room[HINTS + i]) {
+        return 0;
+    }
+    let k = visit(room, src, r, e, v);
+    hold(room, src, r, e, i);
+    k
+}
+
 // What a sweep took away: so many vertices, and so many of them edges.
 pub struct Gone {
     pub all: usize,
@@ -222,7 +296,7 @@ fn sweep(room: &mut [u8], src: &[u8], z: Sizes) -> Gone
     let mut gone = Gone { all: 0, edges: 0 };
     for i in 0..z.edges {
         let e = form::edge_at(src, r, k);
-        gone = with(gone, visit(room, src, r, e, z.nodes + i));
+        gone = with(gone, visit_held(room, src, r, e, z.nodes + i, i));
         k = e.end;
     }
     gone

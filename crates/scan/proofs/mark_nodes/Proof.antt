@@ -10,6 +10,7 @@ use borrow.Author.Needs.{needs}
 use Rattle.le.specs.Rows.{rowAt, span}
 use Rattle.form.specs.Stored.{graphOf}
 use Rattle.choice.specs.Arcs.{size}
+use Rattle.choice.specs.Calls.{roomCycleBreakingNodesScanning}
 use Rattle.choice.specs.Drawing.{vertexCount}
 use Rattle.scan.specs.Tables.{left, testedAll, wentOf, upTo}
 use Rattle.scan.specs.Stages.{Begun}
@@ -27,7 +28,7 @@ test-all-requires c κs = let s = c .before .before .before .before .before .bef
 
 -- how many remain, and what holds, where the stages begin
 module _ (c : tie.After-stages-arg) where
-  long : 98304 ≤ length (c .before .before .before .before .before .before .before .before .before .before .before .prepare .last .0)
+  long : roomCycleBreakingNodesScanning ≤ length (c .before .before .before .before .before .before .before .before .before .before .before .prepare .last .0)
   long = omega (arith, c .before .before .before .before .before .before .before .before .before .before .before .before .before .before .before .before .pre .0, c .before .before .before .before .before .before .before .before .before .before .before .prepare .kept .0)
 
   nodes-tested : (c .before .before .before .before .before .before .before .test-all .last .0 ≡ testedAll (upTo (length (graphOf (now (c .before .before .before .before .before .before .before .before .before .before .before .before .before .before .before .before .args .src)) .labels))) (c .before .before .before .before .before .before .before .before .before .before .before .prepare .last .0)) × (c .before .before .before .before .before .before .before .test-all .result ≡ wentOf (upTo (length (graphOf (now (c .before .before .before .before .before .before .before .before .before .before .before .before .before .before .before .before .args .src)) .labels))) (c .before .before .before .before .before .before .before .before .before .before .before .prepare .last .0))

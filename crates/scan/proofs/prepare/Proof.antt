@@ -12,6 +12,7 @@ use Rattle.le.specs.Le.{Below}
 use Rattle.le.specs.Rows.{rowAt, span}
 use Rattle.le.proofs.Numbers.{below-widen}
 use Rattle.form.specs.Stored.{graphOf}
+use Rattle.choice.specs.Calls.{roomCycleBreakingNodesScanning}
 use Rattle.choice.specs.Drawing.{vertexCount}
 use Rattle.scan.specs.Tables.{keptIn}
 use Rattle.scan.specs.Stages.{Counted}
@@ -29,7 +30,7 @@ low s = subst (λ (k : ℕ). Below k (ids s)) (is-nodes (s .pre .1 .0)) (s .pre 
 
 -- the room that the entries are counted in
 marked : (c : tie.After-count-edges-arg) → let s = c .before .before .before .before .before .before .before .before .before .before .before .before .before .before .before .before .before in
-    c .before .before .before .mark-kept .last .0 ≡ keptIn (sets (sets (now (s .args .room)) 0 (replicate 98304 0)) 0 (replicate (vertexCount (graphOf (now (s .args .src)))) 1)) (ids s)
+    c .before .before .before .mark-kept .last .0 ≡ keptIn (sets (sets (now (s .args .room)) 0 (replicate roomCycleBreakingNodesScanning 0)) 0 (replicate (vertexCount (graphOf (now (s .args .src)))) 1)) (ids s)
 marked c =
     let s = c .before .before .before .before .before .before .before .before .before .before .before .before .before .before .before .before .before in
     c .before .before .before .mark-kept .ensures ∙ ap (λ (q : List ℕ). keptIn q (ids s)) (c .before .before .before .before .before .before .before .mark-all .ensures ∙ (λ i. sets (c .before .before .before .before .before .before .before .before .before .before .before .before .clear .ensures i) 0 (replicate (is-all (s .pre .1 .0) i) 1)))

@@ -2,10 +2,12 @@
 -- Assumes nothing.
 use mathlib.Core.Path.{_≡_, refl, sym, ap, _∙_}
 use mathlib.Core.Bool.{false}
-use Prim.Native.Nat.{ℕ, _-_, _≤_}
+use Prim.Native.Nat.{ℕ, _-_, _%_, _≤_}
 use native.Mathlib.Nat.{le-antisymm}
 use native.Mathlib.Omega.{arith}
+use lib.ListN.{getD}
 use denote.Ref.{now}
+use borrow.Author.Tests.{eq-eqb}
 use Rattle.le.specs.Rows.{span}
 use Rattle.le.proofs.Rows.{holds-less, holds-index}
 use Rattle.scan.specs.Tables.{mostNodes, someLeft}
@@ -40,7 +42,7 @@ returns c =
     let a = c .before .before .before .before .before .before .before .args in
     let l = c .before .before .before .before .loop in
     let x = c .before .before .number in
-    some-found (now (a .src)) (a .r) (a .first) (a .count) (l .j) (x .result) (x .ensures .0) (now (a .room)) (omega arith) (c .if1 .taken) (l .inv .1)
+    sym (some-found (now (a .src)) (a .r) (a .first) (a .count) (l .j) (x .result) (x .ensures .0) (now (a .room)) (omega arith) (eq-eqb (getD (now (a .room)) (x .result) 0 % 2) 1 (c .if1 .taken)))
 
 loop-again : tie.Need-loop-again Inv-loop μ-loop
 loop-again c =

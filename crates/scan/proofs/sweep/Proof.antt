@@ -1,6 +1,7 @@
 -- `scan::sweep` meets its contract.
 -- Assumes nothing.
 use mathlib.Core.Path.{_≡_, refl, _∙_, subst}
+use mathlib.Core.List.{List}
 use Prim.Native.Nat.{ℕ, _+_, _-_, _≤_}
 use native.Mathlib.Nat.{le-antisymm}
 use native.Mathlib.Omega.{arith}
@@ -9,8 +10,9 @@ use denote.Ref.{now}
 use Rattle.graph.specs.Form.{noEdge, edgeStart}
 use Rattle.form.specs.Stored.{graphOf}
 use Rattle.form.proofs.Stored.{stored-rows}
+use Rattle.choice.specs.Calls.{roomCycleBreakingNodesScanning}
 use Rattle.choice.specs.Drawing.{vertexCount}
-use Rattle.scan.specs.Tables.{visited, visitedOf}
+use Rattle.scan.specs.Tables.{Alike, visited, visitedOf}
 use Rattle.scan.specs.Sweeps.{Swept}
 use Rattle.scan.proofs.Form.{is-nodes, is-edges, drawn, Read, counts-held, read-edge}
 use Rattle.scan.proofs.Sweeping.{size-few, visit-moves, swept-start, swept-next}
@@ -33,14 +35,14 @@ read c =
 
 -- the visit, in the graph's own terms
 seen : (c : tie.After-slice-known2 Inv-loop μ-loop) → let g = graphOf (now (c .before .before .before .before .before .before .before .before .before .before .before .args .src)) in let l = c .before .before .before .before .before .before .before .loop in let d = getD (g .edges) (l .i) noEdge in
-    (c .before .before .visit .result ≡ visitedOf (d .sources) (d .targets) (length (g .labels) + l .i) (l .room)) × (c .before .before .visit .last .0 ≡ visited (d .sources) (d .targets) (length (g .labels) + l .i) (l .room))
+    (c .before .before .visit-held .result ≡ visitedOf (d .sources) (d .targets) (length (g .labels) + l .i) (l .room)) × Alike (visited (d .sources) (d .targets) (length (g .labels) + l .i) (l .room)) (c .before .before .visit-held .last .0)
 seen c =
     let f = read (c .before .before .before .before .before) in
     let n = is-nodes (c .before .before .before .before .before .before .before .before .before .before .before .pre .0) in
     let l = c .before .before .before .before .before .before .before .loop in
-    let o = c .before .before .visit in (
+    let o = c .before .before .visit-held in (
       o .ensures .0 ∙ (λ i. visitedOf (f .sources-are i) (f .targets-are i) (n i + l .i) (l .room)),
-      o .ensures .1 ∙ (λ i. visited (f .sources-are i) (f .targets-are i) (n i + l .i) (l .room)),
+      subst (λ (q : List ℕ). Alike q (o .last .0)) (λ i. visited (f .sources-are i) (f .targets-are i) (n i + l .i) (l .room)) (o .ensures .1),
     )
 
 body-row-requires : tie.Need-body-row-requires Inv-loop μ-loop
@@ -54,14 +56,17 @@ edge-at-requires c κs =
     let l = c .before .loop in
     counts-held (c .before .before .before .before .before .pre .0) (c .before .before .body-row .result) (c .before .before .body-row .ensures) (l .i) (l .k) (omega arith) (l .inv .2)
 
-add-visit : tie.Need-add-visit Inv-loop μ-loop
-add-visit c = let s = c .before .before .before .before .before .before .before .before .pre .0 in omega (arith, is-nodes s, is-edges s, drawn s .few)
+add-visit-held : tie.Need-add-visit-held Inv-loop μ-loop
+add-visit-held c = let s = c .before .before .before .before .before .before .before .before .pre .0 in omega (arith, is-nodes s, is-edges s, drawn s .few)
 
-visit-requires : tie.Need-visit-requires Inv-loop μ-loop
-visit-requires c κs =
+visit-held-requires : tie.Need-visit-held-requires Inv-loop μ-loop
+visit-held-requires c κs =
     let s = c .before .before .before .before .before .before .before .before in
     let f = read (c .before .before) in
-    ((f .held, omega (arith, is-nodes (s .pre .0), is-edges (s .pre .0), drawn (s .pre .0) .few), omega (arith, s .pre .1, c .before .before .before .before .loop .inv .1)), (f .low-sources, f .low-targets))
+    let l = c .before .before .before .before .loop in (
+      (f .held, omega (arith, is-nodes (s .pre .0), is-edges (s .pre .0), drawn (s .pre .0) .few), omega (arith, is-edges (s .pre .0), s .pre .0 .within .counts .edges), omega (arith, s .pre .1, l .inv .1)),
+      (f .low-sources, f .low-targets),
+    )
 
 with-requires : tie.Need-with-requires Inv-loop μ-loop
 with-requires c κs =
@@ -69,7 +74,7 @@ with-requires c κs =
     let l = c .before .before .before .before .before .before .before .loop in
     let g = graphOf (now (s .args .src)) in
     let d = drawn (s .pre .0) in
-    let long : 98304 ≤ length (l .room) = omega (arith, s .pre .1, l .inv .1) in
+    let long : roomCycleBreakingNodesScanning ≤ length (l .room) = omega (arith, s .pre .1, l .inv .1) in
     let m = visit-moves g d (l .room) long (l .i) (omega (arith, is-edges (s .pre .0))) in
     let few = size-few (vertexCount g) (now (s .args .room)) (omega (arith, s .pre .1, d .few)) in
     (omega (arith, seen c .0, m .fewer, l .inv .3 .moves .fewer, few, d .few), omega (arith, l .inv .3 .few, l .inv .3 .moves .fewer, few, d .few))
@@ -79,14 +84,14 @@ loop-again c =
     let s = c .before .before .before .before .before .before .before .before .before .before .before .before in
     let l = c .before .before .before .before .before .before .before .before .loop in
     let g = graphOf (now (s .args .src)) in
-    let o = c .before .before .before .visit in
+    let o = c .before .before .before .visit-held in
     let w = seen (c .before) in
-    let long : 98304 ≤ length (l .room) = omega (arith, s .pre .1, l .inv .1) in
+    let long : roomCycleBreakingNodesScanning ≤ length (l .room) = omega (arith, s .pre .1, l .inv .1) in
     let x = c .with in (
       omega arith,
       o .kept .0 ∙ l .inv .1,
       read (c .before .before .before .before .before .before) .next,
-      swept-next g (drawn (s .pre .0)) (now (s .args .room)) (l .room) long (l .i) (l .gone .all) (l .gone .edges) (omega (arith, is-edges (s .pre .0))) (l .inv .3) (o .last .0) (o .result) (x .result .all) (x .result .edges) (w .1) (w .0) (x .ensures .0) (x .ensures .1),
+      swept-next g (drawn (s .pre .0)) (now (s .args .room)) (l .room) long (l .i) (l .gone .all) (l .gone .edges) (omega (arith, is-edges (s .pre .0))) (l .inv .3) (o .last .0) (o .result) (x .result .all) (x .result .edges) (omega (arith, o .kept .0)) (w .1) (w .0) (x .ensures .0) (x .ensures .1),
     )
 
 same-length : tie.Need-same-length Inv-loop μ-loop
@@ -107,8 +112,8 @@ sweep-spec =
     body-row-requires
     loop-holds
     edge-at-requires
-    add-visit
-    visit-requires
+    add-visit-held
+    visit-held-requires
     with-requires
     (λ c. omega arith)
     (λ c. omega arith)

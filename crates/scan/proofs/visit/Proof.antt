@@ -11,18 +11,17 @@ use borrow.Author.Tests.{not-true, not-false}
 use Rattle.le.specs.Rows.{span}
 use Rattle.le.proofs.Rows.{span-append}
 use Rattle.scan.specs.Tables.{lowered, mustGo, visited, visitedOf, testedAll, wentOf}
+use Rattle.scan.proofs.Tables.{visit-none}
 use Rattle.scan.proofs.visit.Statement.{statement}
 use Rattle.scan.proofs.visit.Tie as tie
 
 returns : tie.Need-returns
-unfolding visited visitedOf
 returns c =
     let a = c .before .before .before .before .before .args in
     let s = span (now (a .src)) (a .r) (a .e .first) (a .e .sources) in
     let t = span (now (a .src)) (a .r) (a .e .first + a .e .sources) (a .e .targets) in
-    let low = lowered s t (a .v) (now (a .room)) in
-    let e : mustGo s t (a .v) (now (a .room)) ≡ false = not-true _ (sym (c .before .stays .ensures) ∙ c .if1 .taken) in
-    (sym (ap (λ (b : Bool). cond b (suc (wentOf (s ++ t) low)) 0) e), sym (ap (λ (b : Bool). cond b (testedAll (s ++ t) low) (now (a .room))) e))
+    let w = visit-none s t (a .v) (now (a .room)) (not-true _ (sym (c .before .stays .ensures) ∙ c .if1 .taken)) in
+    (sym (w .1), sym (w .0))
 
 returns-2 : tie.Need-returns-2
 unfolding visited visitedOf
