@@ -280,7 +280,7 @@ impl Graph {
     }
 
     /// Answers and refuses just as [`cycle_breaking_nodes_keeping`](Graph::cycle_breaking_nodes_keeping), by sweeping over
-    /// the graph: it touches a fourteenth of the work room, and takes longer on a large graph.
+    /// the graph: it touches a twelfth of the work room, and takes longer on a large graph.
     pub fn cycle_breaking_nodes_scanning(&self, kept: &[u32]) -> Result<Choice, Refused> {
         let kept = self.ids(kept.iter().copied());
         self.choice(|list, room| ohg_cycle_breaking_nodes_scanning(&self.form, &kept, list, room))
