@@ -1,6 +1,6 @@
 -- The two tables of the scanning engine in a lent room, and what each of its small steps makes of them. A byte for each vertex says whether it remains: an odd one
 -- does, 1 where it may be chosen and 3 where it is kept; 0 has gone, and 2 was chosen. From word 8,192 on a word for each node has its arcs in and 65,536 times
--- its arcs out, among what remains, as far as 32 bits go. A hint for each edge stands behind the two tables, of which nothing here depends.
+-- its arcs out, among what remains, as far as 32 bits go. A hint for each edge stands behind the two tables; nothing here depends on one.
 -- Assumes nothing.
 use mathlib.Core.Path.{_≡_}
 use mathlib.Core.Bool.{Bool, false, _&&_, _||_, not, cond}

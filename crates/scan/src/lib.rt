@@ -4,10 +4,10 @@
 // and at once those of its nodes that are loose then. A sweep in which no node goes leaves nothing loose; then one pass over the nodes finds the best.
 ghost use mathlib.Core.Path.{_≡_};
 ghost use Prim.Native.Nat.{ℕ, _+_, _*_, _/_, _%_, _<_, _≤_, _^_};
-ghost use mathlib.Core.Bool.{true, false, cond, not};
+ghost use mathlib.Core.Bool.{true, false, not};
 ghost use mathlib.Core.List.{List};
-ghost use lib.Dec.{eqb, ltb};
-ghost use lib.ListN.{length, getD, replicate};
+ghost use lib.Dec.{ltb};
+ghost use lib.ListN.{length, replicate};
 ghost use lib.Seq.{sets};
 ghost use Rattle.le.specs.Le.{Below, Wide};
 ghost use Rattle.le.specs.Rows.{Holds, rowAt, span, puts};
@@ -15,7 +15,6 @@ ghost use Rattle.graph.specs.Graph.{Format};
 ghost use Rattle.form.specs.Form.{Gives};
 ghost use Rattle.form.specs.Stored.{graphOf, Stored};
 ghost use Rattle.choice.specs.Arcs.{bump, size};
-ghost use Rattle.choice.specs.Drawing.{vertexCount};
 ghost use Rattle.choice.specs.Passing.{shown, shownBelow};
 ghost use Rattle.choice.specs.Calls.{roomCycleBreakingNodesScanning, listing, cycleBreakingNodesScanningCall};
 ghost use Rattle.scan.specs.Tables.{mostNodes, mostVertices, mostEdges, Alike, left, someLeft, keptIn, nought, shifted, shiftedAll, loose, tested, testedAll, wentOf, upTo, lowered, mustGo, visited, visitedOf, worthIn};
@@ -211,7 +210,7 @@ fn one_left(room: &[u8], src: &[u8], r: Row, first: usize, count: usize, k: usiz
     room[id] % 2 == 1
 }
 
-// Whether the edge that is vertex v is seen at once to stay: it has gone before, or the source and the target that the hint says remain. The hint may be any number.
+// Whether the edge that is vertex v is seen at once to stay: it has gone before, or the source and the target that the hint names remain. The hint may be any number.
 fn is_held(room: &[u8], src: &[u8], r: Row, e: EdgeAt, v: usize, hint: u8) -> bool
     requires { ⌜ Holds (now src) r (e .first + e .sources + e .targets) × (v < mostVertices) × (roomCycleBreakingNodesScanning ≤ length (now room)) ⌝ }
     requires { ⌜ Below mostNodes (span (now src) r (e .first) (e .sources)) × Below mostNodes (span (now src) r (e .first + e .sources) (e .targets)) ⌝ }
@@ -227,7 +226,7 @@ fn is_held(room: &[u8], src: &[u8], r: Row, e: EdgeAt, v: usize, hint: u8) -> bo
     one_left(room, src, r, e.first + e.sources, e.targets, h / HINT_BASE)
 }
 
-// The index of the first of these nodes that remains, where a hint can say it.
+// The index of the first of these nodes that remains, where a hint can name it; else 0.
 fn seek(room: &[u8], src: &[u8], r: Row, first: usize, count: usize) -> usize
     requires { ⌜ Holds (now src) r (first + count) × Below mostNodes (span (now src) r first count) × (roomCycleBreakingNodesScanning ≤ length (now room)) ⌝ }
     ensures { λ k. ⌜ k < 16 ⌝ }

@@ -1,6 +1,6 @@
 -- `scan::is_held` meets its contract.
 -- Assumes nothing.
-use mathlib.Core.Path.{_≡_, ap}
+use mathlib.Core.Path.{ap}
 use mathlib.Core.Bool.{Bool, _&&_, not, false≢true}
 use Prim.Native.Nat.{_+_, _%_}
 use native.Mathlib.Omega.{arith}
