@@ -250,7 +250,7 @@ fn hold(room: &mut [u8], src: &[u8], r: Row, e: EdgeAt, i: usize)
     room[HINTS + i] = (s + HINT_BASE * t) as u8;
 }
 
-// The same as `visit` of edge i, which is vertex v: its lists are looked through only where its hint does not hold it.
+// The same as `visit` of edge i, which is vertex v: its lists are looked through only where its hint does not hold it, and if it stays then it gets another hint.
 fn visit_held(room: &mut [u8], src: &[u8], r: Row, e: EdgeAt, v: usize, i: usize) -> usize
     requires { ⌜ Holds (now src) r (e .first + e .sources + e .targets) × (v < mostVertices) × (i < mostEdges) × (roomCycleBreakingNodesScanning ≤ length (now room)) ⌝ }
     requires { ⌜ Below mostNodes (span (now src) r (e .first) (e .sources)) × Below mostNodes (span (now src) r (e .first + e .sources) (e .targets)) ⌝ }
@@ -261,8 +261,11 @@ fn visit_held(room: &mut [u8], src: &[u8], r: Row, e: EdgeAt, v: usize, i: usize
         return 0;
     }
     let k = visit(room, src, r, e, v);
+    if k != 0 {
+        return k;
+    }
     hold(room, src, r, e, i);
-    k
+    0
 }
 
 // What a sweep took away: so many vertices, and so many of them edges.

@@ -1,6 +1,6 @@
 -- `scan::visit_held` meets its contract.
 -- Assumes nothing.
-use mathlib.Core.Path.{sym, ap, subst}
+use mathlib.Core.Path.{sym, ap, _∙_, subst}
 use mathlib.Core.List.{List}
 use Prim.Native.Nat.{ℕ, _+_}
 use native.Mathlib.Omega.{arith}
@@ -27,16 +27,21 @@ returns c =
 visit-requires : tie.Need-visit-requires
 visit-requires c κs = let p = c .before .before .before .before .before .before .pre in ((p .0 .0, p .0 .1, p .0 .3), p .1)
 
-hold-requires : tie.Need-hold-requires
-hold-requires c κs =
-    let p = c .before .before .before .before .before .before .before .before .before .before .pre in
-    ((p .0 .0, p .0 .2, omega (arith, p .0 .3, c .before .before .before .visit .kept .0)), p .1)
-
 returns-2 : tie.Need-returns-2
 returns-2 c =
-    let o = c .before .before .before .before .before .before .visit in
+    let o = c .before .before .before .visit in
+    (o .ensures .0, record { long = ap length (o .ensures .1); tables = ap (take hintsAt) (o .ensures .1) })
+
+hold-requires : tie.Need-hold-requires
+hold-requires c κs =
+    let p = c .before .before .before .before .before .before .before .before .before .before .before .pre in
+    ((p .0 .0, p .0 .2, omega (arith, p .0 .3, c .before .before .before .before .visit .kept .0)), p .1)
+
+returns-3 : tie.Need-returns-3
+returns-3 c =
+    let o = c .before .before .before .before .before .before .before .visit in
     let h = c .before .before .hold in
-    (o .ensures .0, subst (λ (q : List ℕ). Alike q (h .last .0)) (o .ensures .1) (h .ensures))
+    (sym (c .before .before .before .before .if2 .left) ∙ o .ensures .0, subst (λ (q : List ℕ). Alike q (h .last .0)) (o .ensures .1) (h .ensures))
 
 pub visit-held-spec : {M : Type 1} → statement M
 visit-held-spec =
@@ -48,6 +53,8 @@ visit-held-spec =
     (λ c. search needs)
     returns
     visit-requires
+    (λ c. search needs)
+    returns-2
     hold-requires
     (λ c. search needs)
-    returns-2)
+    returns-3)
