@@ -6,16 +6,16 @@ use mathlib.Core.List.{List, [], _∷_, _++_}
 use Prim.Native.Nat.{ℕ, _+_, _-_, _%_, _≤_, _<_}
 use native.Mathlib.Numerals.{add-one}
 use native.Mathlib.Omega.{arith}
-use lib.ListN.{getD, set}
+use lib.ListN.{getD, set, drop}
 use borrow.Author.Tests.{ne-eqb}
 use Rattle.le.specs.Le.{Below}
 use Rattle.le.specs.Rows.{entry, span}
 use Rattle.le.specs.declared.Row.{Row}
-use Rattle.le.proofs.Numbers.{below-at}
-use Rattle.le.proofs.Rows.{length-span, span-at, span-next, span-append}
+use Rattle.le.proofs.Numbers.{below-at, below-take, below-drop}
+use Rattle.le.proofs.Rows.{length-span, span-at, span-next, span-append, span-part}
 use Rattle.choice.specs.Arcs.{bump}
 use Rattle.scan.specs.Tables.{remains, someLeft, keptIn, shifted, shiftedAll, loose, tested, testedAll, wentOf, upTo}
-use Rattle.scan.proofs.Tables.{shifts-next, tests-next, went-next, some-next, some-append}
+use Rattle.scan.proofs.Tables.{shifts-next, tests-next, went-next, some-next, some-append, some-behind}
 
 module _ (b : List ℕ) (r : Row) (first count j : ℕ) (x : ℕ) (is : x ≡ entry b r (first + j)) where
   -- it is below what bounds the row
@@ -50,6 +50,19 @@ module _ (b : List ℕ) (r : Row) (first count j : ℕ) (x : ℕ) (is : x ≡ en
 
   pub none-found : (room : List ℕ) → (getD room x 0 % 2 ≡ 1 → ⊥) → someLeft room (span b r first j) ≡ false → someLeft room (span b r first (j + 1)) ≡ false
   none-found room e h = ap (someLeft room) next ∙ some-next room (span b r first j) x ∙ (λ i. h i || ne-eqb (getD room x 0 % 2) 1 e i)
+
+-- a part of a row
+module _ (b : List ℕ) (r : Row) (first count start n : ℕ) (inside : start + n ≤ count) where
+  pub part-below : (most : ℕ) → Below most (span b r first count) → Below most (span b r (first + start) n)
+  part-below most low = subst (Below most) (span-part b r first count start n inside) (below-take most n (drop start (span b r first count)) (below-drop most start (span b r first count) low))
+
+  pub part-left : (room : List ℕ) → someLeft room (span b r (first + start) n) ≡ true → someLeft room (span b r first count) ≡ true
+  part-left room e =
+      let split : start + n + (count - (start + n)) ≡ count = omega arith in
+      let here : someLeft room (span b r first (start + n)) ≡ true =
+      ap (someLeft room) (span-append b r first start n) ∙ some-behind room (span b r first start) (span b r (first + start) n) e in
+      ap (λ (k : ℕ). someLeft room (span b r first k)) (sym split) ∙ ap (someLeft room) (span-append b r first (start + n) (count - (start + n)))
+      ∙ some-append room (span b r first (start + n)) (span b r (first + (start + n)) (count - (start + n))) here
 
 -- the same of the numbers from 0 on
 pub count-turn : (old room new : List ℕ) (v gone k : ℕ) → (gone ≡ wentOf (upTo v) old) × (room ≡ testedAll (upTo v) old)

@@ -291,6 +291,14 @@ some-append room (x ∷ xs) ys e = go (some-append room xs ys) (remains (getD ro
     go rest true h = refl
     go rest false h = rest h
 
+pub some-behind : (room xs ys : List ℕ) → someLeft room ys ≡ true → someLeft room (xs ++ ys) ≡ true
+some-behind room [] ys e = e
+some-behind room (x ∷ xs) ys e = ap (λ (t : Bool). remains (getD room x 0) || t) (some-behind room xs ys e) ∙ last (remains (getD room x 0))
+  where
+    last : (t : Bool) → (t || true) ≡ true
+    last true = refl
+    last false = refl
+
 pub some-same : (n : ℕ) (old new xs : List ℕ) → Below n xs → ((v : ℕ) → v < n → getD new v 0 ≡ getD old v 0) → someLeft new xs ≡ someLeft old xs
 some-same n old new [] low h = refl
 some-same n old new (x ∷ xs) low h = λ i. remains (h x (low .0) i) || some-same n old new xs (low .1) h i

@@ -40,8 +40,9 @@ const HINTS: usize = MARKS + 4 * graph::MAX_NODES;
 // The bytes of work room that the call needs: these, and then a byte for each edge.
 pub const ROOM_CYCLE_BREAKING_NODES_SCANNING: usize = HINTS + graph::MAX_EDGES;
 
-// A hint is the index of a source, below this, and this many times the index of a target, both of which were seen to remain.
-const HINT_BASE: usize = 16;
+// A list of nodes has at most so many blocks of equal length. A hint is the number of a block of the sources, and so many times that of one of the targets, in each of which a
+// node was seen to remain.
+const BLOCKS: usize = 16;
 
 // What an entry adds to its node's word: an arc in or an arc out, and one less of each, modulo 2^32.
 const ARC_IN: u32 = 1;
@@ -198,19 +199,24 @@ fn visit(room: &mut [u8], src: &[u8], r: Row, e: EdgeAt, v: usize) -> usize
     take_edge(room, src, r, e, v)
 }
 
-// Whether there is a node at index k of these, and it remains.
-fn one_left(room: &[u8], src: &[u8], r: Row, first: usize, count: usize, k: usize) -> bool
-    requires { ⌜ Holds (now src) r (first + count) × Below mostNodes (span (now src) r first count) × (roomCycleBreakingNodesScanning ≤ length (now room)) ⌝ }
+// Whether one remains of the nodes in block k of these, where there is such a block.
+fn block_left(room: &[u8], src: &[u8], r: Row, first: usize, count: usize, k: usize) -> bool
+    requires { ⌜ Holds (now src) r (first + count) × Below mostNodes (span (now src) r first count) × (roomCycleBreakingNodesScanning ≤ length (now room)) × (k < 16) ⌝ }
     ensures { λ b. ⌜ (b ≡ true → someLeft (now (room .entry)) (span (now (src .entry)) r first count) ≡ true) ⌝ }
 {
-    if count <= k {
+    let size = count / BLOCKS + 1;
+    let start = k * size;
+    if count <= start {
         return false;
     }
-    let id = le::number(src, r, first + k);
-    room[id] % 2 == 1
+    let rest = count - start;
+    if rest <= size {
+        return some_left(room, src, r, first + start, rest);
+    }
+    some_left(room, src, r, first + start, size)
 }
 
-// Whether the edge that is vertex v is seen at once to stay: it has gone before, or the source and the target that the hint names remain. The hint may be any number.
+// Whether the edge that is vertex v is seen at once to stay: it has gone before, or a node remains in each of the two blocks that the hint names. The hint may be any number.
 fn is_held(room: &[u8], src: &[u8], r: Row, e: EdgeAt, v: usize, hint: u8) -> bool
     requires { ⌜ Holds (now src) r (e .first + e .sources + e .targets) × (v < mostVertices) × (roomCycleBreakingNodesScanning ≤ length (now room)) ⌝ }
     requires { ⌜ Below mostNodes (span (now src) r (e .first) (e .sources)) × Below mostNodes (span (now src) r (e .first + e .sources) (e .targets)) ⌝ }
@@ -220,19 +226,19 @@ fn is_held(room: &[u8], src: &[u8], r: Row, e: EdgeAt, v: usize, hint: u8) -> bo
         return true;
     }
     let h = hint as usize;
-    if !one_left(room, src, r, e.first, e.sources, h % HINT_BASE) {
+    if !block_left(room, src, r, e.first, e.sources, h % BLOCKS) {
         return false;
     }
-    one_left(room, src, r, e.first + e.sources, e.targets, h / HINT_BASE)
+    block_left(room, src, r, e.first + e.sources, e.targets, h / BLOCKS)
 }
 
-// The index of the first of these nodes that remains, where a hint can name it; else 0.
+// The number of the first block in which one of these nodes remains; 0 where there is none.
 fn seek(room: &[u8], src: &[u8], r: Row, first: usize, count: usize) -> usize
     requires { ⌜ Holds (now src) r (first + count) × Below mostNodes (span (now src) r first count) × (roomCycleBreakingNodesScanning ≤ length (now room)) ⌝ }
     ensures { λ k. ⌜ k < 16 ⌝ }
 {
-    for k in 0..HINT_BASE {
-        if one_left(room, src, r, first, count, k) {
+    for k in 0..BLOCKS {
+        if block_left(room, src, r, first, count, k) {
             return k;
         }
     }
@@ -247,7 +253,7 @@ fn hold(room: &mut [u8], src: &[u8], r: Row, e: EdgeAt, i: usize)
 {
     let s = seek(room, src, r, e.first, e.sources);
     let t = seek(room, src, r, e.first + e.sources, e.targets);
-    room[HINTS + i] = (s + HINT_BASE * t) as u8;
+    room[HINTS + i] = (s + BLOCKS * t) as u8;
 }
 
 // The same as `visit` of edge i, which is vertex v: its lists are looked through only where its hint does not hold it, and if it stays then it gets another hint.

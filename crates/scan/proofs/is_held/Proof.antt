@@ -20,24 +20,24 @@ returns c e =
     ap (λ (b : Bool). b && not (someLeft (now (a .room)) (span (now (a .src)) (a .r) (a .e .first) (a .e .sources)) && someLeft (now (a .room)) (span (now (a .src)) (a .r) (a .e .first + a .e .sources) (a .e .targets))))
     (ne-eqb (getD (now (a .room)) (a .v) 0 % 2) 1 (c .if1 .taken))
 
-one-left-requires : tie.Need-one-left-requires
-one-left-requires c κs = let p = c .before .before .before .before .pre in (holds-less (p .0 .0) _ (omega arith), p .1 .0, p .0 .2)
+block-left-requires : tie.Need-block-left-requires
+block-left-requires c κs = let p = c .before .before .before .before .pre in (holds-less (p .0 .0) _ (omega arith), p .1 .0, p .0 .2, omega arith)
 
 returns-2 : tie.Need-returns-2
 returns-2 c e = absurd (false≢true e)
 
-add-one-left : tie.Need-add-one-left
-add-one-left c = omega (arith, holds-index (c .before .before .before .before .before .before .before .pre .0 .0))
+add-block-left : tie.Need-add-block-left
+add-block-left c = omega (arith, holds-index (c .before .before .before .before .before .before .before .pre .0 .0))
 
-one-left-requires-2 : tie.Need-one-left-requires-2
-one-left-requires-2 c κs = let p = c .before .before .before .before .before .before .before .pre in (p .0 .0, p .1 .1, p .0 .2)
+block-left-requires-2 : tie.Need-block-left-requires-2
+block-left-requires-2 c κs = let p = c .before .before .before .before .before .before .before .pre in (p .0 .0, p .1 .1, p .0 .2, omega arith)
 
 returns-3 : tie.Need-returns-3
 returns-3 c e =
     let a = c .before .before .before .before .before .before .before .before .args in
     let there = eq-eqb (getD (now (a .room)) (a .v) 0 % 2) 1 (c .before .before .before .before .if1 .left) in
-    let source = c .before .before .before .one-left .ensures (not-false _ (c .before .before .if2 .left)) in
-    let target = c .one-left2 .ensures e in
+    let source = c .before .before .before .block-left .ensures (not-false _ (c .before .before .if2 .left)) in
+    let target = c .block-left2 .ensures e in
     λ i. there i && not (source i && target i)
 
 pub is-held-spec : {M : Type 1} → statement M
@@ -46,8 +46,8 @@ is-held-spec =
     (tie.spec
     (λ c. search needs)
     returns
-    one-left-requires
+    block-left-requires
     returns-2
-    add-one-left
-    one-left-requires-2
+    add-block-left
+    block-left-requires-2
     returns-3)

@@ -11,8 +11,8 @@ Inv-loop room src r first count k₀ k = k ≤ 16
 abbrev μ-loop : tie.MeasureT-loop
 μ-loop room src r first count k₀ k = 16 - k
 
-one-left-requires : tie.Need-one-left-requires Inv-loop μ-loop
-one-left-requires c κs = let p = c .before .before .before .before .pre in (p .0, p .1, p .2)
+block-left-requires : tie.Need-block-left-requires Inv-loop μ-loop
+block-left-requires c κs = let p = c .before .before .before .before .pre in (p .0, p .1, p .2, omega arith)
 
 pub seek-spec : {M : Type 1} → statement M
 seek-spec =
@@ -21,7 +21,7 @@ seek-spec =
     Inv-loop
     μ-loop
     (λ c. omega arith)
-    one-left-requires
+    block-left-requires
     (λ c. omega arith)
     (λ c. omega arith)
     (λ c. omega arith)
