@@ -1,4 +1,4 @@
--- Which refusals the choice, with kept nodes and without and by either engine, the no-loop check and the loop that is shown can give, whatever they are given.
+-- Which refusals the choice, with kept nodes and without and by either engine, its reasons, the no-loop check and the loop that is shown can give, whatever they are given.
 -- Assumes nothing.
 use mathlib.Core.List.{List}
 use mathlib.Core.Path.{refl}
@@ -6,8 +6,8 @@ use Prim.Native.Nat.{ℕ}
 use Rattle.graph.proofs.Refuses.{RefusedBy, answer-by, step-by}
 use Rattle.graph.proofs.RefusedBy.{reads-by, id-list-by, unpaired-by, fit-by, work-by}
 use Rattle.graph.specs.Calls.{inWorkRoom}
-use Rattle.choice.specs.Calls.{listing, cycleBroken, cycleBrokenKeeping, roomCycleBreakingNodes, cycleBreakingNodesCall, cycleBreakingNodesKeepingCall, roomCycleBreakingNodesScanning, cycleBreakingNodesScanningCall, loopFree, noLoopCall, showing, loopFound, findLoopCall}
-use Rattle.choice.specs.RefusedBy.{cycleBreakingNodesRefusals, cycleBreakingNodesKeepingRefusals, cycleBreakingNodesScanningRefusals, noLoopRefusals, findLoopRefusals}
+use Rattle.choice.specs.Calls.{listing, cycleBroken, cycleBrokenKeeping, roomCycleBreakingNodes, cycleBreakingNodesCall, cycleBreakingNodesKeepingCall, roomCycleBreakingNodesScanning, cycleBreakingNodesScanningCall, loopFree, noLoopCall, showing, loopFound, findLoopCall, reasoned, reasonsCall}
+use Rattle.choice.specs.RefusedBy.{cycleBreakingNodesRefusals, cycleBreakingNodesKeepingRefusals, cycleBreakingNodesScanningRefusals, noLoopRefusals, findLoopRefusals, reasonsRefusals}
 use Rattle.choice.proofs.Kept.{sixteen-by}
 
 pub cycle-breaking-nodes-by : (b : List ℕ) (room workRoom : ℕ) → RefusedBy cycleBreakingNodesRefusals (cycleBreakingNodesCall b room workRoom)
@@ -43,5 +43,12 @@ pub find-loop-by : (b : List ℕ) (room workRoom : ℕ) → RefusedBy findLoopRe
 unfolding showing loopFound
 find-loop-by b room workRoom =
     let ns : List ℕ = findLoopRefusals in
+    work-by ns refl _ workRoom _
+    (step-by _ _ (reads-by ns refl b) (λ s. step-by _ _ (unpaired-by ns refl (s .graph)) (λ g. step-by _ _ (fit-by ns refl room _) (λ list. answer-by _))))
+
+pub reasons-by : (b : List ℕ) (room workRoom : ℕ) → RefusedBy reasonsRefusals (reasonsCall b room workRoom)
+unfolding reasoned
+reasons-by b room workRoom =
+    let ns : List ℕ = reasonsRefusals in
     work-by ns refl _ workRoom _
     (step-by _ _ (reads-by ns refl b) (λ s. step-by _ _ (unpaired-by ns refl (s .graph)) (λ g. step-by _ _ (fit-by ns refl room _) (λ list. answer-by _))))

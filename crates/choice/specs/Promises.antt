@@ -4,11 +4,12 @@ use mathlib.Core.Path.{_≡_}
 use mathlib.Core.Bool.{Bool}
 use mathlib.Core.List.{List, [], _∷_}
 use mathlib.Core.Logic.{_⊎_, _↔_}
-use Prim.Native.Nat.{ℕ, zero, _+_, _≤_, _<_}
+use Prim.Native.Nat.{ℕ, zero, _+_, _≤_, _<_, _*_}
 use lib.Dec.{T}
 use lib.ListN.{length}
 use Rattle.le.specs.Le.{Below, numbers, row}
 use Rattle.graph.specs.Graph.{Graph}
+use Rattle.graph.specs.Lists.{joined}
 use Rattle.graph.specs.Answer.{answered, Result}
 use Rattle.graph.specs.Versions.{StoredGraph, read}
 use Rattle.graph.specs.Calls.{idList}
@@ -18,6 +19,7 @@ use Rattle.choice.specs.Drawing.{arcs, vertexCount, chosen}
 use Rattle.choice.specs.Keeping.{chosenKeeping}
 use Rattle.choice.specs.Loop.{noneShown, Loop, since, loop, Lowest, Walks}
 use Rattle.choice.specs.Simple.{SimpleCycle}
+use Rattle.choice.specs.Reasons.{numbersOf, reasons}
 
 -- all arcs join vertices below n
 abbrev pub Bounded : List Arc → ℕ → Type 0
@@ -97,3 +99,13 @@ pub record LoopOf (b : List ℕ) (room : ℕ) (s : StoredGraph) (c : Result) : T
   pub steps : c .b ≡ loop (s .graph) .steps
   pub fits : length (c .bytes) ≤ room
   pub back : numbers (s .format .width) (c .a) (c .bytes) ≡ loop (s .graph) .list
+
+-- the answer is the reasons of the stored graph's nodes, four numbers each, and its bytes are read back as those
+pub record ReasonsOf (b : List ℕ) (room : ℕ) (s : StoredGraph) (c : Result) : Type 0 where
+  pub stored : read b ≡ answered s
+  pub pairless : length (s .graph .pairs) ≡ zero
+  pub written : c .bytes ≡ row 4 (joined numbersOf (reasons (s .graph)))
+  pub count : c .a ≡ length (s .graph .labels)
+  pub cuts : c .b ≡ length (chosen (s .graph) .ids)
+  pub fits : length (c .bytes) ≤ room
+  pub back : numbers 4 (4 * c .a) (c .bytes) ≡ joined numbersOf (reasons (s .graph))
