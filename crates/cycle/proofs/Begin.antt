@@ -69,6 +69,17 @@ within-both arcs S y = go (eqb (y % 2) 0) refl
         let same : vertex (mate y) ≡ vertex y = omega arith in
         rw (e, eq-eqb (mate y % 2) 0 (omega arith), same) (omega arith)
 
+-- there is room for all vertices to wait
+pub all-roomy : (arcs : List Arc) (n : ℕ) (h : Halves) (ts : List ℕ) → Between arcs n (vertices n) (h .degrees) (h .waiting) ts → Roomy n h
+all-roomy arcs n h ts b = record {
+  long = b .long;
+  paired = b .paired;
+  room = omega (arith, b .number, size-vertices n);
+  low = λ y m.
+      let t = bump-true (has (vertices n) (vertex y) && eqb (getD (h .degrees) (2 * vertex y) 0) 0) (omega (arith, b .once (vertex y), in-waits y (h .waiting) m)) in
+      omega (arith, has-lt (vertices n) (vertex y) (and-left (has (vertices n) (vertex y)) (eqb (getD (h .degrees) (2 * vertex y) 0) 0) t), b .set-long);
+}
+
 -- how large a graph is: it has so many nodes, and n vertices in all
 pub record Drawn (g : Graph) (nodes n : ℕ) : Type 0 where
   pub proper : Proper g
@@ -114,6 +125,24 @@ module _ (s : Source) (g : Graph) (nodes n : ℕ) (is-drawn : Drawn g nodes n) w
       let many : length (arcs g) ≡ ports g = unfold arcs in length-arcs (length (g .labels)) (g .edges) in
       omega (arith, within-both (arcs g) S y, own, many, is-drawn .few-ports)
 
+  -- where nothing waits, every degree is small: a live half has the arcs within what is left, and so has its mate
+  pub small-still : (S : Set) (d : List ℕ) → Between (arcs g) n S d [] [] → AllSmall d
+  small-still S d b y = go (eq-zero-or-pos (getD d y 0))
+    where
+      right : (z : ℕ) → 0 < getD d z 0 → getD d z 0 ≡ within (arcs g) S z
+      right z p = omega (arith, b .right z p, nil-times z)
+
+      beside : 0 < getD d y 0 → (getD d (mate y) 0 ≡ 0) ⊎ (0 < getD d (mate y) 0) → getD d y 0 < radix
+      beside p (inl z) =
+          let twice : mate (mate y) ≡ y = omega arith in
+          let none : getD d y 0 ≡ 0 = subst (λ (x : ℕ). getD d x 0 ≡ 0) twice (b .paired (mate y) z) in
+          absurd (omega (arith, p, none))
+      beside p (inr q) = omega (arith, right y p, right (mate y) q, few-within S y, q)
+
+      go : (getD d y 0 ≡ 0) ⊎ (0 < getD d y 0) → getD d y 0 < radix
+      go (inl z) = omega arith
+      go (inr p) = beside p (eq-zero-or-pos (getD d (mate y) 0))
+
   module _ (W X Y : List ℕ) (long : pickedAt ≤ length W) (built : Built s g W) (mid end : ℕ) (seeds : Went W X n mid (seedTo n (halvesIn W n 0))) where
     lists-W : (y : ℕ) → y < 2 * n → listIn s W nodes y ≡ neighbours (arcs g) y
     lists-W y l = ap (λ (k : ℕ). listIn s W k y) nodes-is ∙ built .lists y (omega arith)
@@ -127,26 +156,19 @@ module _ (s : Source) (g : Graph) (nodes n : ℕ) (is-drawn : Drawn g nodes n) w
     abbrev h : Halves
     h = halvesIn W n 0
 
-    start : Seeding (arcs g) n 0 (halvesIn W n 0 .degrees) (halvesIn W n 0 .waiting)
+    start : Seeding (arcs g) n [] 0 (halvesIn W n 0 .degrees) (halvesIn W n 0 .waiting)
     unfolding halvesIn part
-    start = seeding-start (arcs g) n (take (2 * n) W) (length-take-le (2 * n) W (omega arith))
-        (λ y l. getD-take (2 * n) W y 0 l ∙ built .degrees y (omega arith) ∙ degrees-within (arcs g) n bounded y)
+    start = seeding-start (arcs g) n [] (take (2 * n) W) (length-take-le (2 * n) W (omega arith))
+        (λ y l. getD-take (2 * n) W y 0 l ∙ built .degrees y (omega arith) ∙ omega (arith, degrees-within (arcs g) n bounded y, nil-times y))
 
-    seeding : Seeding (arcs g) n n (seedTo n h .degrees) (seedTo n h .waiting)
-    seeding = seeded (arcs g) n n h (omega arith) start
+    seeding : Seeding (arcs g) n [] n (seedTo n h .degrees) (seedTo n h .waiting)
+    seeding = seeded (arcs g) n [] n h (omega arith) start
 
     state : Between (arcs g) n (vertices n) (seedTo n h .degrees) (seedTo n h .waiting) []
-    state = seeding-done (arcs g) n (seedTo n h .degrees) (seedTo n h .waiting) seeding
+    state = seeding-done (arcs g) n [] (seedTo n h .degrees) (seedTo n h .waiting) seeding
 
     roomy : Roomy n (seedTo n h)
-    roomy = record {
-      long = state .long;
-      paired = state .paired;
-      room = omega (arith, state .number, size-vertices n);
-      low = λ y m.
-          let t = bump-true (has (vertices n) (vertex y) && eqb (getD (seedTo n h .degrees) (2 * vertex y) 0) 0) (omega (arith, state .once (vertex y), in-waits y (seedTo n h .waiting) m)) in
-          omega (arith, has-lt (vertices n) (vertex y) (and-left (has (vertices n) (vertex y)) (eqb (getD (seedTo n h .degrees) (2 * vertex y) 0) 0) t), state .set-long);
-    }
+    roomy = all-roomy (arcs g) n (seedTo n h) [] state
 
     pub seeded-roomy : Roomy n (halvesIn X n mid)
     seeded-roomy = subst (Roomy n) (sym (seeds .is)) roomy
@@ -167,7 +189,7 @@ module _ (s : Source) (g : Graph) (nodes n : ℕ) (is-drawn : Drawn g nodes n) w
       lists = lists-steady s X Y nodes n few less (omega (arith, seeds .frame .long)) (w .frame) seeded-lists;
       listed =
           listed (arcs g) n bounded (listIn s Y nodes) (λ y l. list-steady s X Y nodes y (omega (arith, few)) (w .frame) (omega (arith, seeds .frame .long)) (seeded-lists .room-inside y) ∙ same-X y l);
-      small = small;
+      small = small-still (k .rest) (take (2 * n) Y) now-still;
       left = k .rest;
       frees = subst (Frees (arcs g) (vertices n) (k .rest)) number (k .frees);
       ready = ready;
@@ -192,26 +214,6 @@ module _ (s : Source) (g : Graph) (nodes n : ℕ) (is-drawn : Drawn g nodes n) w
 
         now-still : Between (arcs g) n (k .rest) (take (2 * n) Y) [] []
         now-still = unfold halvesIn in still (arcs g) n (k .rest) (halvesIn Y n end) (subst (λ (f : ℕ). Ready (arcs g) n (k .rest) (halvesIn Y n end) f []) (sym waits) ready)
-
-        small : AllSmall (degreesIn Y n)
-        small y = go (eq-zero-or-pos (getD (take (2 * n) Y) y 0))
-          where
-            -- a live half has the arcs within what is left
-            right : (z : ℕ) → 0 < getD (take (2 * n) Y) z 0 → getD (take (2 * n) Y) z 0 ≡ within (arcs g) (k .rest) z
-            right z p = omega (arith, now-still .right z p, nil-times z)
-
-            -- and so has its mate, which has gone only if both have
-            go : (getD (take (2 * n) Y) y 0 ≡ 0) ⊎ (0 < getD (take (2 * n) Y) y 0) → getD (take (2 * n) Y) y 0 < radix
-            go (inl z) = omega arith
-            go (inr p) = beside (eq-zero-or-pos (getD (take (2 * n) Y) (mate y) 0))
-              where
-                beside : (getD (take (2 * n) Y) (mate y) 0 ≡ 0) ⊎ (0 < getD (take (2 * n) Y) (mate y) 0) → getD (take (2 * n) Y) y 0 < radix
-                beside (inl z) =
-                    let gone = now-still .paired (mate y) z in
-                    let twice : mate (mate y) ≡ y = omega arith in
-                    let none : getD (take (2 * n) Y) y 0 ≡ 0 = subst (λ (x : ℕ). getD (take (2 * n) Y) x 0 ≡ 0) twice gone in
-                    absurd (omega (arith, p, none))
-                beside (inr q) = omega (arith, right y p, right (mate y) q, few-within (k .rest) y, q)
 
   -- ---- what is left
 

@@ -1,4 +1,4 @@
--- One vertex leaves S: the first that waits, or one that is chosen. What is then to be lowered is its lists; and what holds when nothing waits.
+-- One vertex leaves S: the first that waits, or one that is chosen. What is then to be lowered is its lists, before what was still to be lowered; and what holds when nothing waits.
 -- Assumes nothing.
 use mathlib.Core.Path.{_≡_, refl, sym, ap, _∙_, subst}
 use mathlib.Core.Bool.{Bool, true, false, _&&_}
@@ -11,12 +11,12 @@ use lib.Dec.{T, eqb}
 use lib.ListN.{getD, set, length-set}
 use lib.Seq.{getD-set-same, getD-set-other}
 use borrow.Author.Tests.{eq-eqb, ne-eqb, eqb-true}
-use Rattle.choice.specs.Arcs.{Arc, bump, howMany, Set, has, without, Stable, Loose}
+use Rattle.choice.specs.Arcs.{Arc, bump, howMany, Set, has, without, Stable}
 use Rattle.choice.proofs.Sets.{and-left, and-right, gone, stays, size-without, has-lt}
 use Rattle.choice.proofs.Degrees.{is-true}
 use Rattle.halves.specs.Halves.{vertex, mate, within, joins, times, waits, live, Listed, drop-both, Between}
 use Rattle.halves.proofs.Lists.{count-cons, count-append, pos-of, live-gone}
-use Rattle.halves.proofs.Sides.{within-without, within-less, idle-takes, idle-loose, joins-other, into-half, out-half}
+use Rattle.halves.proofs.Sides.{within-without, within-less, idle-takes, joins-other, into-half, out-half}
 
 pub bump-true : (t : Bool) → 0 < bump t 0 → T t
 bump-true true l = tt
@@ -40,7 +40,7 @@ nil-times z = refl
 module _ (arcs : List Arc) (n : ℕ) (lists : ℕ → List ℕ) (listed : Listed arcs n lists) where
   -- ---- the first that waits
 
-  module _ (S : Set) (d q : List ℕ) (y : ℕ) (b : Between arcs n S d (y ∷ q) []) where
+  module _ (S : Set) (d q : List ℕ) (y : ℕ) (ts : List ℕ) (b : Between arcs n S d (y ∷ q) ts) where
     waiting-there : T (has S (vertex y) && eqb (getD d (2 * vertex y) 0) 0)
     waiting-there =
         bump-true (has S (vertex y) && eqb (getD d (2 * vertex y) 0) 0)
@@ -51,9 +51,6 @@ module _ (arcs : List Arc) (n : ℕ) (lists : ℕ → List ℕ) (listed : Listed
 
     pub waiting-in : T (has S (vertex y))
     waiting-in = and-left (has S (vertex y)) (eqb (getD d (2 * vertex y) 0) 0) waiting-there
-
-    pub waiting-loose : Loose arcs S (vertex y)
-    waiting-loose = idle-loose arcs S y (b .idle y (List·Memᴰ·head refl))
 
     pub waiting-low : y < 2 * n
     waiting-low = omega (arith, has-lt S (vertex y) waiting-in, b .set-long)
@@ -68,14 +65,14 @@ module _ (arcs : List Arc) (n : ℕ) (lists : ℕ → List ℕ) (listed : Listed
         go (yes f) = ap (λ (k : ℕ). getD d k 0) f ∙ k
         go (no f) = let g : z ≡ mate (2 * vertex y) = omega arith in ap (λ (k : ℕ). getD d k 0) g ∙ b .paired (2 * vertex y) k
 
-    -- it leaves S, and its half's list is to be lowered
-    pub waiting-leaves : Between arcs n (without (vertex y) S) d q (lists y)
+    -- it leaves S, and its half's list is to be lowered, before what was
+    pub waiting-leaves : Between arcs n (without (vertex y) S) d q (lists y ++ ts)
     waiting-leaves = record {
       long = b .long;
       set-long = length-set S x false ∙ b .set-long;
       paired = b .paired;
       inside = λ z p. stays x S (vertex z) (away z p) (b .inside z p);
-      right = λ z p. b .right z p ∙ omega (arith, nil-times z, idle-takes arcs S y z waiting-in (b .inside z p) (b .idle y (List·Memᴰ·head refl)), listed .right y z waiting-low);
+      right = λ z p. b .right z p ∙ omega (arith, count-append (λ t. eqb t z) (lists y) ts, idle-takes arcs S y z waiting-in (b .inside z p) (b .idle y (List·Memᴰ·head refl)), listed .right y z waiting-low);
       once = λ u. once u (ℕ-discrete u x);
       idle = λ z m. omega (arith, within-less arcs S x waiting-in z, b .idle z (List·Memᴰ·tail m));
       number = omega (arith, b .number, size-without x S waiting-in);
@@ -183,7 +180,7 @@ module _ (arcs : List Arc) (n : ℕ) (lists : ℕ → List ℕ) (listed : Listed
 
 -- ---- nothing waits
 
-module _ (arcs : List Arc) (n : ℕ) (S : Set) (d : List ℕ) (b : Between arcs n S d [] []) where
+module _ (arcs : List Arc) (n : ℕ) (S : Set) (d : List ℕ) {ts : List ℕ} (b : Between arcs n S d [] ts) where
   -- whoever is in S is live
   pub all-live : (x : ℕ) → T (has S x) → 0 < getD d (2 * x) 0
   unfolding howMany
@@ -199,15 +196,17 @@ module _ (arcs : List Arc) (n : ℕ) (S : Set) (d : List ℕ) (b : Between arcs 
       pos-of (getD d (2 * x + 1) 0)
       (λ k. let e : mate (2 * x + 1) ≡ 2 * x = omega arith in omega (arith, all-live x t, ap (λ (k : ℕ). getD d k 0) e, b .paired (2 * x + 1) k))
 
+-- and nothing is to be lowered
+module _ (arcs : List Arc) (n : ℕ) (S : Set) (d : List ℕ) (b : Between arcs n S d [] []) where
   pub in-right : (x : ℕ) → T (has S x) → getD d (2 * x) 0 ≡ within arcs S (2 * x)
-  in-right x t = omega (arith, b .right (2 * x) (all-live x t), nil-times (2 * x))
+  in-right x t = omega (arith, b .right (2 * x) (all-live arcs n S d b x t), nil-times (2 * x))
 
   pub out-right : (x : ℕ) → T (has S x) → getD d (2 * x + 1) 0 ≡ within arcs S (2 * x + 1)
-  out-right x t = omega (arith, b .right (2 * x + 1) (all-live-out x t), nil-times (2 * x + 1))
+  out-right x t = omega (arith, b .right (2 * x + 1) (all-live-out arcs n S d b x t), nil-times (2 * x + 1))
 
   -- so each has an arc in and an arc out within S
   pub all-stable : Stable arcs S
   all-stable x t = (
-    omega (arith, all-live x t, in-right x t, into-half arcs S x),
-    omega (arith, all-live-out x t, out-right x t, out-half arcs S x),
+    omega (arith, all-live arcs n S d b x t, in-right x t, into-half arcs S x),
+    omega (arith, all-live-out arcs n S d b x t, out-right x t, out-half arcs S x),
   )

@@ -5,5 +5,8 @@ pub mod Marks
 pub mod Lowering
 pub mod Leaving
 pub mod Start
+pub mod Waiting
 pub mod Whole
+pub mod Phases
+pub mod Parting
 pub mod Less

@@ -1,4 +1,4 @@
--- The start: each vertex with a half that has nothing waits, and the invariant holds of all vertices.
+-- The start: each vertex with a half that has nothing waits, and the invariant holds of all vertices, whatever is still to be lowered.
 -- Assumes nothing.
 use mathlib.Core.Path.{_≡_, refl, sym, ap, _∙_, subst}
 use mathlib.Core.Bool.{Bool, true, false, _&&_, cond, not}
@@ -15,9 +15,9 @@ use borrow.Author.Tests.{eq-eqb, ne-eqb, eqb-true, eqb-false, lt-ltb, le-ltb}
 use Rattle.choice.specs.Arcs.{Arc, In, bump, howMany, Set, has, vertices, without, size, passing}
 use Rattle.choice.proofs.Sets.{has-passing, size-vertices, size-without, gone}
 use Rattle.choice.proofs.Degrees.{is-true}
-use Rattle.halves.specs.Halves.{vertex, mate, within, waits, live, Halves, seed, seedTo, Between, Seeding}
+use Rattle.halves.specs.Halves.{vertex, mate, within, times, waits, live, Halves, seed, seedTo, Between, Seeding}
 use Rattle.halves.proofs.Lists.{count-cons, count-append, count-one, pos-of}
-use Rattle.halves.proofs.Leaving.{bump-true, has-without, nil-times}
+use Rattle.halves.proofs.Leaving.{bump-true, has-without}
 
 -- ---- a list in which each vertex of a set waits once is as long as the set is large
 
@@ -83,10 +83,10 @@ getD-past [] y l = refl
 getD-past (x ∷ d) zero l = absurd (omega arith)
 getD-past (x ∷ d) (suc y) l = getD-past d y (omega arith)
 
-module _ (arcs : List Arc) (n : ℕ) where
+module _ (arcs : List Arc) (n : ℕ) (ts : List ℕ) where
   -- ---- no vertex is seeded yet
 
-  pub seeding-start : (d : List ℕ) → length d ≡ 2 * n → ((y : ℕ) → y < 2 * n → getD d y 0 ≡ within arcs (vertices n) y) → Seeding arcs n 0 d []
+  pub seeding-start : (d : List ℕ) → length d ≡ 2 * n → ((y : ℕ) → y < 2 * n → getD d y 0 ≡ within arcs (vertices n) y + times y ts) → Seeding arcs n ts 0 d []
   seeding-start d e h = record {
     long = e;
     paired = λ y l. absurd (omega arith);
@@ -113,8 +113,8 @@ module _ (arcs : List Arc) (n : ℕ) where
       go (yes l) = le-ltb u (suc k) (omega arith) ∙ sym (le-ltb u k l)
       go (no l) = lt-ltb u (suc k) (omega (arith, lt-of-not-le l)) ∙ sym (lt-ltb u k (lt-of-not-le l))
 
-  module _ (k : ℕ) (d q : List ℕ) (low : k < n) (b : Seeding arcs n k d q) where
-    seed-live : 0 < getD d (2 * k) 0 → 0 < getD d (2 * k + 1) 0 → Seeding arcs n (suc k) d q
+  module _ (k : ℕ) (d q : List ℕ) (low : k < n) (b : Seeding arcs n ts k d q) where
+    seed-live : 0 < getD d (2 * k) 0 → 0 < getD d (2 * k + 1) 0 → Seeding arcs n ts (suc k) d q
     seed-live i o = record {
       long = b .long;
       paired = λ y l e. paired y e (ℕ-discrete (vertex y) k) l;
@@ -137,7 +137,7 @@ module _ (arcs : List Arc) (n : ℕ) where
         once x (no f) = ap (λ (t : Bool). bump (t && eqb (getD d (2 * x) 0) 0) 0) (sym (ltb-next x k f))
 
     -- half y of vertex k has nothing
-    seed-gone : (y : ℕ) → vertex y ≡ k → getD d y 0 ≡ 0 → Seeding arcs n (suc k) (set d (mate y) 0) (q ++ (y ∷ []))
+    seed-gone : (y : ℕ) → vertex y ≡ k → getD d y 0 ≡ 0 → Seeding arcs n ts (suc k) (set d (mate y) 0) (q ++ (y ∷ []))
     seed-gone y v z = record {
       long = length-set d (mate y) 0 ∙ b .long;
       paired = λ x l p. paired x l p (ℕ-discrete (vertex x) k);
@@ -191,9 +191,9 @@ module _ (arcs : List Arc) (n : ℕ) where
 
         idle : (x : ℕ) → In x q ⊎ In x (y ∷ []) → within arcs (vertices n) x ≡ 0
         idle x (inl m) = b .idle x m
-        idle x (inr m) = ap (within arcs (vertices n)) (List·Memᴰ·eq-of-singleton m) ∙ sym (b .fresh y (omega arith) (omega arith)) ∙ z
+        idle x (inr m) = ap (within arcs (vertices n)) (List·Memᴰ·eq-of-singleton m) ∙ omega (arith, b .fresh y (omega arith) (omega arith), z)
 
-  pub seed-turn : (k : ℕ) (h : Halves) → k < n → Seeding arcs n k (h .degrees) (h .waiting) → Seeding arcs n (suc k) (seed k h .degrees) (seed k h .waiting)
+  pub seed-turn : (k : ℕ) (h : Halves) → k < n → Seeding arcs n ts k (h .degrees) (h .waiting) → Seeding arcs n ts (suc k) (seed k h .degrees) (seed k h .waiting)
   unfolding seed
   seed-turn k h low b = go (eqb (getD d (2 * k) 0) 0) refl (eqb (getD d (2 * k + 1) 0) 0) refl
     where
@@ -211,25 +211,25 @@ module _ (arcs : List Arc) (n : ℕ) where
           cond i (record { degrees = set d (2 * k + 1) 0; waiting = h .waiting ++ ((2 * k) ∷ []) })
           (cond o (record { degrees = set d (2 * k) 0; waiting = h .waiting ++ ((2 * k + 1) ∷ []) }) h)
 
-      go : (i : Bool) → eqb (getD d (2 * k) 0) 0 ≡ i → (o : Bool) → eqb (getD d (2 * k + 1) 0) 0 ≡ o → Seeding arcs n (suc k) (after i o .degrees) (after i o .waiting)
+      go : (i : Bool) → eqb (getD d (2 * k) 0) 0 ≡ i → (o : Bool) → eqb (getD d (2 * k + 1) 0) 0 ≡ o → Seeding arcs n ts (suc k) (after i o .degrees) (after i o .waiting)
       go true e o f =
-          subst (λ (z : ℕ). Seeding arcs n (suc k) (set d z 0) (h .waiting ++ ((2 * k) ∷ []))) up
+          subst (λ (z : ℕ). Seeding arcs n ts (suc k) (set d z 0) (h .waiting ++ ((2 * k) ∷ []))) up
           (seed-gone k d (h .waiting) low b (2 * k) (omega arith) (eqb-true (getD d (2 * k) 0) 0 e))
       go false e true f =
-          subst (λ (z : ℕ). Seeding arcs n (suc k) (set d z 0) (h .waiting ++ ((2 * k + 1) ∷ []))) down
+          subst (λ (z : ℕ). Seeding arcs n ts (suc k) (set d z 0) (h .waiting ++ ((2 * k + 1) ∷ []))) down
           (seed-gone k d (h .waiting) low b (2 * k + 1) (omega arith) (eqb-true (getD d (2 * k + 1) 0) 0 f))
       go false e false f =
           seed-live k d (h .waiting) low b (pos-of (getD d (2 * k) 0) (eqb-false (getD d (2 * k) 0) 0 e)) (pos-of (getD d (2 * k + 1) 0) (eqb-false (getD d (2 * k + 1) 0) 0 f))
 
   -- ---- all vertices are seeded
 
-  pub seeding-done : (d q : List ℕ) → Seeding arcs n n d q → Between arcs n (vertices n) d q []
+  pub seeding-done : (d q : List ℕ) → Seeding arcs n ts n d q → Between arcs n (vertices n) d q ts
   seeding-done d q b = record {
     long = b .long;
     set-long = length-replicate n true;
     paired = λ y. paired y (decLe (2 * n) y);
     inside = λ y p. subst T (sym (getD-replicate n (vertex y) true false (omega (arith, low y p)))) tt;
-    right = λ y p. b .right y p ∙ omega (arith, nil-times y);
+    right = b .right;
     once = once;
     idle = b .idle;
     number = omega (arith, as-many q (passing bare (vertices n)) (λ x. once x ∙ ap (λ (t : Bool). bump t 0) (sym (has-passing bare (vertices n) x))), parts, size-vertices n);
@@ -266,7 +266,7 @@ module _ (arcs : List Arc) (n : ℕ) where
 
   -- ---- all of it, as the model does
 
-  pub seeded : (k : ℕ) (h : Halves) → k ≤ n → Seeding arcs n 0 (h .degrees) (h .waiting) → Seeding arcs n k (seedTo k h .degrees) (seedTo k h .waiting)
+  pub seeded : (k : ℕ) (h : Halves) → k ≤ n → Seeding arcs n ts 0 (h .degrees) (h .waiting) → Seeding arcs n ts k (seedTo k h .degrees) (seedTo k h .waiting)
   unfolding seedTo
   seeded zero h l b = b
   seeded (suc k) h l b = seed-turn k (seedTo k h) l (seeded k h (omega arith) b)

@@ -6,7 +6,7 @@ use mathlib.Core.List.{List, [], _∷_, _++_}
 use Prim.Native.Nat.{ℕ, zero, suc, _+_, _-_, _*_, _/_, _%_, _≤_, _<_}
 use lib.Dec.{T, eqb, ltb}
 use lib.ListN.{length, getD, set, drop}
-use Rattle.choice.specs.Arcs.{Arc, In, bump, howMany, Set, has, vertices, size, passing, into, out}
+use Rattle.choice.specs.Arcs.{Arc, In, bump, howMany, Set, has, vertices, without, size, passing, into, out}
 use Rattle.choice.specs.Degrees.{between, Sofar}
 
 -- ---- halves
@@ -97,7 +97,8 @@ seedTo (suc k) h = seed k (seedTo k h)
 unfoldable pub live : ℕ → List ℕ → Set
 live n d = passing (λ x. not (eqb (getD d (2 * x) 0) 0)) (vertices n)
 
--- S: the vertices that are live or still wait; d: the degrees; q: what still waits; ts: the halves that are still to be lowered for the vertex that left S last
+-- S: the vertices that are live or still wait; d: the degrees; q: what still waits; ts: the halves that are still to be lowered, for vertices that left S or as a start
+-- put them in
 pub record Between (arcs : List Arc) (n : ℕ) (S : Set) (d q ts : List ℕ) : Type 0 where
   pub long : length d ≡ 2 * n
   pub set-long : length S ≡ n
@@ -117,17 +118,34 @@ pub record Ready (arcs : List Arc) (n : ℕ) (S : Set) (h : Halves) (first : ℕ
   pub started : first ≤ length (h .waiting)
   pub state : Between arcs n S (h .degrees) (drop first (h .waiting)) ts
 
+-- from S the vertices of these halves went, one after the other, each as a half that had nothing left, and U is left
+pub data Leaves (arcs : List Arc) : Set → List ℕ → Set → Type 0 where
+  stayed : {S : Set} → Leaves arcs S [] S
+  left : {S U : Set} {ys : List ℕ} (y : ℕ) → T (has S (vertex y)) → within arcs S y ≡ 0 → Leaves arcs (without (vertex y) S) ys U → Leaves arcs S (y ∷ ys) U
+
 -- what holds before and after each vertex: `first` were removed freely so far, and those of `picked` were chosen
 pub record Going (arcs : List Arc) (may : ℕ → Bool) (n : ℕ) (S : Set) (h : Halves) (picked : List ℕ) (first : ℕ) : Type 0 where
   pub ready : Ready arcs n S h first []
   pub told : Sofar arcs may n S picked first
   pub spent : first + length picked + size S ≡ n
 
--- the first k vertices are seeded
-pub record Seeding (arcs : List Arc) (n k : ℕ) (d q : List ℕ) : Type 0 where
+-- the first k vertices are seeded, these halves being still to be lowered
+pub record Seeding (arcs : List Arc) (n : ℕ) (ts : List ℕ) (k : ℕ) (d q : List ℕ) : Type 0 where
   pub long : length d ≡ 2 * n
   pub paired : (y : ℕ) → vertex y < k → getD d y 0 ≡ 0 → getD d (mate y) 0 ≡ 0
-  pub right : (y : ℕ) → 0 < getD d y 0 → getD d y 0 ≡ within arcs (vertices n) y
-  pub fresh : (y : ℕ) → k ≤ vertex y → y < 2 * n → getD d y 0 ≡ within arcs (vertices n) y
+  pub right : (y : ℕ) → 0 < getD d y 0 → getD d y 0 ≡ within arcs (vertices n) y + times y ts
+  pub fresh : (y : ℕ) → k ≤ vertex y → y < 2 * n → getD d y 0 ≡ within arcs (vertices n) y + times y ts
   pub once : (x : ℕ) → waits x q ≡ bump (ltb x k && eqb (getD d (2 * x) 0) 0) 0
   pub idle : (y : ℕ) → In y q → within arcs (vertices n) y ≡ 0
+
+-- ---- a removal in two parts: first what has no arc in, then what has no arc out
+
+-- at the start: a vertex without an arc out is given one, which is still to be lowered, so that it does not go before its part
+unfoldable pub raiseTo : ℕ → List ℕ → List ℕ
+raiseTo zero d = d
+raiseTo (suc k) d = let e = raiseTo k d in cond (eqb (getD e (2 * k + 1) 0) 0) (set e (2 * k + 1) 1) e
+
+-- the out-halves of the first k vertices without an arc out, whose in-halves have empty lists
+unfoldable pub endsTo : (ℕ → List ℕ) → ℕ → List ℕ
+endsTo lists zero = []
+endsTo lists (suc k) = endsTo lists k ++ cond (eqb (length (lists (2 * k))) 0) ((2 * k + 1) ∷ []) []

@@ -20,7 +20,7 @@ fn less_one(d: u32) -> u32
 }
 
 // An arc at half y has gone; answered is the new end of the waiting list.
-fn lower(room: &mut [u8], n: usize, y: usize, end: usize) -> usize
+pub fn lower(room: &mut [u8], n: usize, y: usize, end: usize) -> usize
     requires { ⌜ (y < 2 * n) × (n ≤ mostVertices) × (end ≤ n) × (roomRemoval ≤ length (now room)) ⌝ }
     requires { ⌜ Roomy n (halvesIn (words (now room)) n end) ⌝ }
     ensures { λ last. ⌜ Went (words (now (room .entry))) (words (now (room .exit))) n last (lower y (halvesIn (words (now (room .entry))) n end)) ⌝ }
@@ -73,7 +73,7 @@ fn lower_formed(
 }
 
 // The same for the list of half y.
-fn lower_all(
+pub fn lower_all(
     room: &mut [u8],
     s: &[u8],
     r: Row,
