@@ -15,7 +15,7 @@ use Rattle.choice.proofs.Core.{core-subset, core-stable, peels-core, pe
 use Rattle.choice.proofs.Ascending.{insert-in, in-insert}
 use Rattle.choice.proofs.Stages.{best-best, best-only, run-inside}
 use Rattle.choice.specs.Promises.{Offers}
-use Rattle.choice.specs.Reasons.{Reason, picked, notLedTo, leadsToNone, isPicked, stageOf, led, why, Way, here, LedTo, LeadsOn, Because, isBest, isNotLedTo, isLeadingToNone, isLater}
+use Rattle.choice.specs.Reasons.{Reason, picked, notLedTo, leadsToNone, isPicked, stageOf, led, why, Way, here, LedTo, LeadsOn, Because, Known, isBest, isNotLedTo, isLeadingToNone, isLater}
 use Rattle.choice.proofs.Led.{led-subset, led-iff, between-core}
 
 module _ (arcs : List Arc) where
@@ -143,14 +143,11 @@ module _ (arcs : List Arc) (may : ℕ → Bool) where
 
   -- ---- for an engine: the reasons of what remains are reasons from the start on
 
-  pub record Known (n stage : ℕ) (S : Set) : Type 0 where
-    pub onward : (v : ℕ) (r : Reason) → Because arcs may stage S v r → Because arcs may 1 (vertices n) v r
-
-  pub known-start : (n : ℕ) → Known n 1 (vertices n)
+  pub known-start : (n : ℕ) → Known arcs may n 1 (vertices n)
   known-start n = record { onward = λ v r b. b }
 
   -- the choice of a stage: b goes, and the next stage begins with the rest of the core
-  pub known-next : (n stage : ℕ) (S : Set) (b : ℕ) → Known n stage S → Best arcs may (core arcs S) b → Known n (suc stage) (without b (core arcs S))
+  pub known-next : (n stage : ℕ) (S : Set) (b : ℕ) → Known arcs may n stage S → Best arcs may (core arcs S) b → Known arcs may n (suc stage) (without b (core arcs S))
   known-next n stage S b a best = record { onward = λ v r x. a .onward v r (isLater (inside v x) best (other v x) x) }
     where
       inside : (v : ℕ) {r : Reason} → Because arcs may (suc stage) (without b (core arcs S)) v r → T (has (core arcs S) v)

@@ -23,6 +23,7 @@ use Rattle.choice.specs.Arcs.{Arc, arc, Set, has, vertices, without, int
 use Rattle.choice.specs.Choice.{core, best}
 use Rattle.choice.specs.Drawing.{edgeArcs, arcsFrom, arcs, vertexCount, selectable, chosen}
 use Rattle.choice.proofs.Degrees.{howMany-length}
+use Rattle.choice.proofs.Scores.{length-arcs}
 use Rattle.choice.proofs.Stored.{read-unpaired}
 use Rattle.choice.specs.Promises.{ReasonsOf}
 use Rattle.choice.specs.Reasons.{Reason, picked, notLedTo, leadsToNone, numbersOf, led, why, reason, reasons}
@@ -30,20 +31,6 @@ use Rattle.choice.specs.Calls.{roomReasons, reasoned, reasonsCall}
 use Rattle.choice.proofs.ReasonsGraphs.{reasons-length}
 
 -- ---- the numbers are small
-
-pub length-arcs : (e : ℕ) (ds : List Edge) → length (arcsFrom e ds) ≡ length (edgeEntries ds)
-unfolding arcsFrom edgeArcs
-length-arcs e [] = refl
-length-arcs e (d ∷ ds) =
-    length-append (edgeArcs e d) (arcsFrom (suc e) ds)
-    ∙ (λ i. one i + length-arcs (suc e) ds i)
-    ∙ sym (length-append (d .sources ++ d .targets) (edgeEntries ds))
-  where
-    one : length (map (λ x. arc x e) (d .sources) ++ map (λ x. arc e x) (d .targets)) ≡ length (d .sources ++ d .targets)
-    one =
-        length-append (map (λ x. arc x e) (d .sources)) (map (λ x. arc e x) (d .targets))
-        ∙ (λ i. length-map (d .sources) (λ x. arc x e) i + length-map (d .targets) (λ x. arc e x) i)
-        ∙ sym (length-append (d .sources) (d .targets))
 
 into-few : (arcs : List Arc) (S : Set) (v : ℕ) → into arcs S v ≤ length arcs
 unfolding into

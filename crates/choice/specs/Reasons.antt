@@ -100,3 +100,7 @@ Fed arcs S = (v : ℕ) → T (has S v) → zero < into arcs S v
 pub data Drains (arcs : List Arc) : Set → Set → Type 0 where
   drained : {S : Set} → Fed arcs S → Drains arcs S S
   drain : {S U : Set} (v : ℕ) → T (has S v) → into arcs S v ≡ zero → Drains arcs (without v S) U → Drains arcs S U
+
+-- what an engine has told so far, S being what remained when this stage began: the reasons of what is in S are reasons from the start on
+pub record Known (arcs : List Arc) (may : ℕ → Bool) (n stage : ℕ) (S : Set) : Type 0 where
+  pub onward : (v : ℕ) (r : Reason) → Because arcs may stage S v r → Because arcs may 1 (vertices n) v r

@@ -30,7 +30,7 @@ use Rattle.cycle.specs.Stage.{Standing, Staged}
 use Rattle.cycle.proofs.May.{may-low, may-outside, may-chosen}
 
 -- keys in words that are the same
-keys-same : (W X : List ℕ) (base n : ℕ) → ((i : ℕ) → base ≤ i → getD X i 0 ≡ getD W i 0) → keysIn X base n ≡ keysIn W base n
+pub keys-same : (W X : List ℕ) (base n : ℕ) → ((i : ℕ) → base ≤ i → getD X i 0 ≡ getD W i 0) → keysIn X base n ≡ keysIn W base n
 keys-same W X base n t =
     ext-getD 0 (keysIn X base n) (keysIn W base n) (keys-length X base n ∙ sym (keys-length W base n))
     (λ i l. let k : i < n = omega (arith, keys-length X base n) in keys-at X base n i k ∙ key i ∙ sym (keys-at W base n i k))
@@ -57,7 +57,7 @@ pick-same : (L M : ℕ → List ℕ) (x : ℕ) (h : Halves) → L (2 * x) ≡ M 
 unfolding pick
 pick-same L M x h e f = λ i. lowerAll (f i) (lowerAll (e i) (record { degrees = drop-both x (h .degrees); waiting = h .waiting }))
 
-peel-same : (k n : ℕ) (L M : ℕ → List ℕ) (first : ℕ) (h : Halves) → ((y : ℕ) → y < 2 * n → L y ≡ M y) → ((y : ℕ) → y < 2 * n → AllLow n (M y)) → Roomy n h
+pub peel-same : (k n : ℕ) (L M : ℕ → List ℕ) (first : ℕ) (h : Halves) → ((y : ℕ) → y < 2 * n → L y ≡ M y) → ((y : ℕ) → y < 2 * n → AllLow n (M y)) → Roomy n h
     → peelFrom k L first h ≡ peelFrom k M first h
 unfolding peelFrom
 peel-same zero n L M first h same low r = refl

@@ -1,0 +1,9 @@
+pub mod Entries
+pub mod Rooms
+pub mod Ends
+pub mod Saying
+pub mod Parts
+pub mod Beginning
+pub mod Choosing
+pub mod Running
+pub mod Ending
