@@ -55,7 +55,7 @@ answer-of (answered y) h e code = (y, refl, a-of-packed (answered y) h e, b-of-p
 
 -- ---- bytes that are read are a graph, and the caller knows the width of its lists
 
-draws : (b : List ℕ) → Below 256 b → (s : StoredGraph) → read b ≡ answered s → Draws b (s .graph)
+pub draws : (b : List ℕ) → Below 256 b → (s : StoredGraph) → read b ≡ answered s → Draws b (s .graph)
 draws b t s p =
     let h = read-sound b s t p in
     let f : s .format ≡ fitting (s .graph) = sym (h .fits) in
@@ -92,7 +92,7 @@ module _ (bytes old new : List ℕ) (n : ℕ) (buffer : new ≡ bytes ++ drop (l
   front : take n new ≡ bytes
   front = ap (take n) buffer ∙ take-at bytes (drop (length bytes) old) n long
 
-  kept : drop n new ≡ drop n old
+  pub kept : drop n new ≡ drop n old
   kept = ap (drop n) buffer ∙ drop-at bytes (drop (length bytes) old) n long ∙ ap (λ k. drop k old) long
 
 -- ---- spiderizing at a list that the choice gave, which every directed cycle meets

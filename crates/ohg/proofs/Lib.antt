@@ -5,3 +5,4 @@ pub mod Caller
 pub mod Engines
 pub mod Explicit
 pub mod Rewritten
+pub mod Reasons

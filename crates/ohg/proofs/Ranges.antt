@@ -13,8 +13,9 @@ use Rattle.graph.specs.Graph.{Graph, Format, Proper, WellFormed, largest}
 use Rattle.graph.specs.Checks.{monogamous}
 use Rattle.choice.specs.Drawing.{noLoop}
 use Rattle.le.specs.Le.{Below}
-use Rattle.choice.specs.Calls.{roomCycleBreakingNodes, cycleBreakingNodesCall, cycleBreakingNodesKeepingCall, cycleBreakingNodesScanningCall, noLoopCall, findLoopCall}
+use Rattle.choice.specs.Calls.{roomCycleBreakingNodes, cycleBreakingNodesCall, cycleBreakingNodesKeepingCall, cycleBreakingNodesScanningCall, noLoopCall, findLoopCall, reasonsCall}
 use Rattle.choice.proofs.Graphs.{chosen-and-free-are-all}
+use Rattle.choice.proofs.ReasonsStored.{reasons-answer}
 use Rattle.choice.proofs.Stored.{cycle-breaking-nodes-answer, no-loop-answer}
 use Rattle.choice.proofs.KeptStored.{keeping-answer}
 use Rattle.choice.proofs.Shown.{steps-bounds}
@@ -22,10 +23,10 @@ use Rattle.choice.proofs.ShownStored.{find-loop-answer}
 use Rattle.choice.proofs.Sweeps.{scanned-kept}
 use Rattle.graph.proofs.Answers.{FormOf, Keeps, on-graph-answer, on-nothing-answer, read-answer, delete-nodes-answer, quotient-call-answer, once-fed-answer, worked, rewrite-kept, empty-kept, discrete-kept, identity-kept, singleton-kept, new-node-kept, new-edge-kept, new-operation-kept, unify-kept, add-source-kept, add-target-kept, delete-edges-kept, spiderize-kept, spiderize-all-kept}
 use Rattle.graph.specs.RefusedBy.{readCallRefusals, rewriteRefusals, emptyRefusals, discreteRefusals, identityRefusals, singletonRefusals, newNodeRefusals, newEdgeRefusals, newOperationRefusals, unifyRefusals, addEdgeSourceRefusals, addEdgeTargetRefusals, deleteEdgesRefusals, deleteNodesRefusals, quotientRefusals, spiderizeRefusals, spiderizeNodesRefusals, onceFedRefusals}
-use Rattle.choice.specs.RefusedBy.{cycleBreakingNodesRefusals, cycleBreakingNodesKeepingRefusals, cycleBreakingNodesScanningRefusals, noLoopRefusals, findLoopRefusals}
+use Rattle.choice.specs.RefusedBy.{cycleBreakingNodesRefusals, cycleBreakingNodesKeepingRefusals, cycleBreakingNodesScanningRefusals, noLoopRefusals, findLoopRefusals, reasonsRefusals}
 use Rattle.graph.proofs.Refusals.{Listed, listed, refused-in}
 use Rattle.graph.proofs.RefusedBy.{read-call-by, rewrite-by, empty-by, discrete-by, identity-by, singleton-by, new-node-by, new-edge-by, new-operation-by, unify-by, add-edge-source-by, add-edge-target-by, delete-edges-by, delete-nodes-by, quotient-by, spiderize-by, spiderize-nodes-by, once-fed-by}
-use Rattle.choice.proofs.RefusedBy.{cycle-breaking-nodes-by, cycle-breaking-nodes-keeping-by, cycle-breaking-nodes-scanning-by, no-loop-by, find-loop-by}
+use Rattle.choice.proofs.RefusedBy.{cycle-breaking-nodes-by, cycle-breaking-nodes-keeping-by, cycle-breaking-nodes-scanning-by, no-loop-by, find-loop-by, reasons-by}
 use Rattle.graph.proofs.Steps.{same-answer, came}
 use Rattle.graph.proofs.Versions.{read-sound, longest}
 use Rattle.ohg.specs.Packed.{Ranged}
@@ -214,6 +215,18 @@ module _ (b : List ℕ) (t : Below 256 b) (room : ℕ) where
         let within = sound .version .grows (s .graph) (sound .formed) .counts in
         let few = steps-bounds (s .graph) (sound .formed .proper) in
         (omega (arith, h .1 .count, few, within .nodes, within .edges), omega (arith, h .1 .steps, few, within .nodes, within .edges));
+  }
+
+  pub reasons-ranged : (workRoom : ℕ) → Ranged (reasonsCall b room workRoom)
+  reasons-ranged workRoom = record {
+    no = λ r e. refused-in (listed reasonsRefusals refl (reasons-by b room workRoom)) e;
+    numbers = λ m e.
+        let h = reasons-answer b t room workRoom m e in
+        let s = h .0 in
+        let sound = read-sound b s t (h .1 .stored) in
+        let within = sound .version .grows (s .graph) (sound .formed) .counts in
+        let all = chosen-and-free-are-all (s .graph) (sound .formed .proper) in
+        (omega (arith, h .1 .count, within .nodes), omega (arith, h .1 .cuts, all, within .nodes, within .edges));
   }
 
 -- ---- the checks

@@ -3,7 +3,7 @@ ghost use mathlib.Core.Path.{_≡_};
 ghost use lib.ListN.{length};
 ghost use Prim.Native.Nat.{min};
 ghost use Rattle.graph.specs.Calls.{readCall, rewriteCall, emptyCall, discreteCall, identityCall, singletonCall, newNodeCall, newEdgeCall, newOperationCall, unifyCall, addEdgeSourceCall, addEdgeTargetCall, deleteEdgesCall, deleteNodesCall, quotientCall, spiderizeCall, spiderizeNodesCall, onceFedCall};
-ghost use Rattle.choice.specs.Calls.{cycleBreakingNodesCall, cycleBreakingNodesKeepingCall, cycleBreakingNodesScanningCall, noLoopCall, findLoopCall};
+ghost use Rattle.choice.specs.Calls.{cycleBreakingNodesCall, cycleBreakingNodesKeepingCall, cycleBreakingNodesScanningCall, noLoopCall, findLoopCall, reasonsCall};
 ghost use Rattle.ohg.specs.Packed.{packed, Returns, ReturnsMap, packedOutcome, Packs};
 use form::Outcome;
 
@@ -239,6 +239,15 @@ pub extern "C" fn ohg_cycle_breaking_nodes_scanning(
     ensures { λ r. ⌜ Returns (cycleBreakingNodesScanningCall (now (src .entry)) (now (kept .entry)) (length (now (list .entry))) (length (now (room .entry)))) r (now (list .entry)) (now (list .exit)) ⌝ }
 {
     let x = scan::cycle_breaking_nodes_scanning(src, kept, list, room);
+    pack(x)
+}
+
+// Why each node is one of these, or was freed.
+#[no_mangle]
+pub extern "C" fn ohg_reasons(src: &[u8], out: &mut [u8], room: &mut [u8]) -> u64
+    ensures { λ r. ⌜ Returns (reasonsCall (now (src .entry)) (length (now (out .entry))) (length (now (room .entry)))) r (now (out .entry)) (now (out .exit)) ⌝ }
+{
+    let x = reasons::reasons(src, out, room);
     pack(x)
 }
 

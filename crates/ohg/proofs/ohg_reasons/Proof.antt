@@ -1,0 +1,23 @@
+-- `ohg::ohg_reasons` meets its contract.
+-- Assumes nothing.
+use native.Mathlib.Omega.{arith}
+use lib.ListN.{length}
+use denote.Ref.{now}
+use borrow.Author.Needs.{needs}
+use Rattle.le.proofs.Numbers.{below-each}
+use Rattle.ohg.proofs.Packing.{packs, returns-of}
+use Rattle.ohg.proofs.Ranges.{reasons-ranged}
+use Rattle.ohg.proofs.ohg_reasons.Statement.{statement}
+use Rattle.ohg.proofs.ohg_reasons.Tie as tie
+
+pack-requires : tie.Need-pack-requires
+pack-requires c κs =
+    let a = c .before .before .before .before .before .before .before .before .before .before .args in
+    let t-src = below-each 256 (now (a .src)) (λ i l. omega (arith, c .before .before .before .before .before .before .before .before .before .shared-slice-known .given i)) in
+    packs (reasons-ranged (now (a .src)) t-src (length (now (a .out))) (length (now (a .room)))) (c .before .before .before .before .reasons .ensures .result)
+
+returns : tie.Need-returns
+returns c = returns-of (c .before .before .before .before .before .reasons .ensures) (c .pack .ensures)
+
+pub ohg-reasons-spec : {M : Type 1} → statement M
+ohg-reasons-spec = tie.close (tie.spec (λ c κs. search needs) pack-requires (λ c. search needs) (λ c. search needs) returns)
