@@ -1,10 +1,10 @@
 -- Taking away vertices without an arc in leaves just what core vertices lead to. And a vertex outside the core that a core vertex
 -- leads to leads to none.
 -- Assumes nothing.
-use mathlib.Core.Path.{_≡_, refl, sym, ap, _∙_, subst}
-use mathlib.Core.Bool.{Bool, false}
-use mathlib.Core.List.{List, Memᴰ·cast}
-use mathlib.Core.Logic.{_⊎_, inl, inr, _↔_, _≢_}
+use mathlib.Core.Path.{_≡_, refl, sym, _∙_, subst}
+use mathlib.Core.Bool.{false}
+use mathlib.Core.List.{List}
+use mathlib.Core.Logic.{_⊎_, inl, inr, _↔_}
 use Prim.Native.Nat.{ℕ, zero, suc, _≤_, _<_}
 use native.Mathlib.Nat.{le-refl, lt-irrefl}
 use native.Mathlib.Decide.{ℕ-discrete}
@@ -13,7 +13,7 @@ use lib.Dec.{T, ltb, ltb→lt, lt→ltb}
 use lib.ListN.{length, length-set}
 use Rattle.choice.specs.Arcs.{Arc, Leads, Set, has, without, size, passing, Subset, into, out}
 use Rattle.choice.specs.Choice.{core, Peels, peel}
-use Rattle.choice.proofs.Sets.{test, set-ext, without-subset, stays, length-passing, kept, passing-subset, none-left, size-without, size-empty, passing-or-less}
+use Rattle.choice.proofs.Sets.{test, set-ext, without-subset, stays, length-passing, kept, passing-subset, none-left, size-without, passing-or-less}
 use Rattle.choice.proofs.Core.{into-some, into-of, out-of, Steady, Inside, stable-steady, core-subset, core-stable, core-steady}
 use Rattle.choice.specs.Reasons.{feed, led, Way, here, onto, LedTo, LeadsOn, Fed, Drains, drained, drain}
 

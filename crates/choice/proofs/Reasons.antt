@@ -2,20 +2,20 @@
 -- Assumes nothing.
 use mathlib.Core.Path.{_≡_, refl, sym, ap, _∙_, subst}
 use mathlib.Core.Bool.{Bool, true, false, cond}
-use mathlib.Core.List.{List, [], List·Memᴰ·not-nil}
+use mathlib.Core.List.{List, List·Memᴰ·not-nil}
 use mathlib.Core.Logic.{_⊎_, inl, inr, _↔_}
-use Prim.Native.Nat.{ℕ, zero, suc, _+_, _≤_, _<_}
+use Prim.Native.Nat.{ℕ, zero, suc, _≤_}
 use native.Mathlib.Omega.{arith}
 use lib.Dec.{T, eqb, eqb→eq, eqb-refl}
 use lib.ListN.{length}
 use Rattle.choice.specs.Arcs.{Arc, In, Set, has, vertices, without, size, IsEmpty, into, out}
-use Rattle.choice.specs.Choice.{core, best, insert, Best, Chooses, stop, choose}
+use Rattle.choice.specs.Choice.{core, best, Best, Chooses, stop, choose}
 use Rattle.choice.proofs.Sets.{gone, none-left, size-without, stays, without-subset}
 use Rattle.choice.proofs.Core.{core-subset, core-stable, peels-core, peels-to-core, peels-taken}
 use Rattle.choice.proofs.Ascending.{insert-in, in-insert}
 use Rattle.choice.proofs.Stages.{best-best, best-only, run-inside}
 use Rattle.choice.specs.Promises.{Offers}
-use Rattle.choice.specs.Reasons.{Reason, picked, notLedTo, leadsToNone, isPicked, stageOf, led, why, Way, here, LedTo, LeadsOn, Because, Known, isBest, isNotLedTo, isLeadingToNone, isLater}
+use Rattle.choice.specs.Reasons.{Reason, picked, notLedTo, leadsToNone, isPicked, led, why, here, LedTo, LeadsOn, Because, Known, isBest, isNotLedTo, isLeadingToNone, isLater}
 use Rattle.choice.proofs.Led.{led-subset, led-iff, between-core}
 
 module _ (arcs : List Arc) where

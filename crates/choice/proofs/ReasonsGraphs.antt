@@ -2,7 +2,7 @@
 -- Assumes nothing.
 use mathlib.Core.Path.{_≡_, refl, sym, ap, _∙_, subst}
 use mathlib.Core.Bool.{true, false}
-use mathlib.Core.List.{List, map}
+use mathlib.Core.List.{map}
 use mathlib.Core.Logic.{_↔_}
 use Prim.Native.Nat.{ℕ, zero, suc, _+_, _≤_, _<_}
 use native.Mathlib.Nat.{le-of-eq, not-suc-le-zero, add-zero, zero-add}
@@ -12,12 +12,12 @@ use lib.ListN.{length, getD, length-map, length-replicate, getD-replicate}
 use Rattle.graph.specs.Lists.{range}
 use Rattle.graph.specs.Graph.{Graph, Proper}
 use Rattle.graph.proofs.Lists.{length-range}
-use Rattle.choice.specs.Arcs.{In, howMany, has, vertices}
+use Rattle.choice.specs.Arcs.{In, howMany, vertices}
 use Rattle.choice.specs.Drawing.{arcs, vertexCount, selectable, chosen}
 use Rattle.choice.proofs.Sets.{has-lt, size-vertices}
 use Rattle.choice.proofs.Fits.{proper-offers}
 use Rattle.choice.proofs.Graphs.{some-run-gives-chosen, chosen-ascends, chosen-are-nodes}
-use Rattle.choice.specs.Reasons.{Reason, isPicked, stageOf, why, reason, reasons, Because}
+use Rattle.choice.specs.Reasons.{Reason, isPicked, stageOf, reason, reasons, Because}
 use Rattle.choice.proofs.Reasons.{why-because, because-only, because-chosen, because-present}
 use Rattle.choice.proofs.ReasonsStages.{stage-from, stage-to, stage-only, stage-some, how-many-pass}
 

@@ -12,7 +12,7 @@ use lib.ListN.{length}
 use Rattle.graph.specs.Lists.{range}
 use Rattle.choice.specs.Arcs.{Arc, In, bump, howMany, Set, has, without}
 use Rattle.choice.specs.Choice.{core, Best, Chooses, stop, choose, Above, Ascends}
-use Rattle.choice.specs.Reasons.{Reason, picked, isPicked, stageOf, Because, isBest, isNotLedTo, isLeadingToNone, isLater}
+use Rattle.choice.specs.Reasons.{Reason, isPicked, stageOf, Because, isBest, isNotLedTo, isLeadingToNone, isLater}
 use Rattle.choice.proofs.Ascending.{length-insert, ascends-ext}
 use Rattle.choice.proofs.Core.{peels-core}
 use Rattle.choice.proofs.Sets.{gone, without-subset}

@@ -2,26 +2,25 @@
 -- Assumes nothing.
 use mathlib.Core.Path.{_≡_, refl, sym, ap, _∙_, subst}
 use mathlib.Core.Bool.{Bool, true, false, cond}
-use mathlib.Core.List.{List, [], _∷_, _++_, map, append-nil}
+use mathlib.Core.List.{List, [], _∷_, map, append-nil}
 use Prim.Native.Nat.{ℕ, zero, suc, _+_, _*_, _^_, _≤_, _<_}
-use native.Mathlib.Nat.{le-refl, le-trans}
 use native.Mathlib.Omega.{arith}
 use lib.Dec.{eqb, leb}
-use lib.ListN.{length, length-append, length-map}
+use lib.ListN.{length, length-append}
 use borrow.Author.Tests.{leb-true}
 use Rattle.le.specs.Le.{Below, numbers, row}
 use Rattle.le.proofs.Numbers.{below-append, numbers-row}
 use Rattle.graph.specs.Lists.{joined, range}
-use Rattle.graph.specs.Graph.{Edge, Graph, edgeEntries, ports}
+use Rattle.graph.specs.Graph.{Graph, ports}
 use Rattle.graph.specs.Answer.{answered, Result}
 use Rattle.graph.specs.Versions.{StoredGraph}
 use Rattle.graph.specs.Calls.{fit}
 use Rattle.graph.proofs.Steps.{same-answer, passed, came}
 use Rattle.graph.proofs.Answers.{worked}
 use Rattle.graph.proofs.Versions.{read-sound}
-use Rattle.choice.specs.Arcs.{Arc, arc, Set, has, vertices, without, into, out}
+use Rattle.choice.specs.Arcs.{Arc, Set, has, vertices, without, into, out}
 use Rattle.choice.specs.Choice.{core, best}
-use Rattle.choice.specs.Drawing.{edgeArcs, arcsFrom, arcs, vertexCount, selectable, chosen}
+use Rattle.choice.specs.Drawing.{arcs, vertexCount, selectable, chosen}
 use Rattle.choice.proofs.Degrees.{howMany-length}
 use Rattle.choice.proofs.Scores.{length-arcs}
 use Rattle.choice.proofs.Stored.{read-unpaired}

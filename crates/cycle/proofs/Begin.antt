@@ -24,7 +24,7 @@ use Rattle.choice.proofs.Fits.{fits-apart, proper-fits, proper-bounded}
 use Rattle.choice.proofs.Scores.{length-arcs}
 use Rattle.choice.proofs.Sets.{size-vertices, size-some, has-lt, and-left}
 use Rattle.choice.proofs.Sofar.{frees-size, frees-core}
-use Rattle.halves.specs.Halves.{vertex, mate, times, waits, within, Halves, Listed, Between, Ready, Seeding, seedTo, peelFrom}
+use Rattle.halves.specs.Halves.{vertex, mate, waits, within, Halves, Listed, Between, Ready, Seeding, seedTo, peelFrom}
 use Rattle.halves.proofs.Leaving.{bump-true, nil-times, all-stable}
 use Rattle.halves.proofs.Lists.{count-cons, pos-of}
 use Rattle.halves.proofs.Sums.{bump-plus}

@@ -14,7 +14,7 @@ use borrow.Author.Tests.{eq-eqb, ne-eqb, eqb-true}
 use Rattle.choice.specs.Arcs.{Arc, bump, howMany, Set, has, without, Stable}
 use Rattle.choice.proofs.Sets.{and-left, and-right, gone, stays, size-without, has-lt}
 use Rattle.choice.proofs.Degrees.{is-true}
-use Rattle.halves.specs.Halves.{vertex, mate, within, joins, times, waits, live, Listed, drop-both, Between}
+use Rattle.halves.specs.Halves.{vertex, mate, within, joins, times, waits, Listed, drop-both, Between}
 use Rattle.halves.proofs.Lists.{count-cons, count-append, pos-of, live-gone}
 use Rattle.halves.proofs.Sides.{within-without, within-less, idle-takes, joins-other, into-half, out-half}
 

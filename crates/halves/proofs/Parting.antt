@@ -4,24 +4,24 @@ use mathlib.Core.Path.{_≡_, refl, sym, ap, _∙_, subst}
 use mathlib.Core.Bool.{Bool, true, false, cond}
 use mathlib.Core.List.{List, [], _∷_, _++_, List·Memᴰ·append-cases, List·Memᴰ·eq-of-singleton, List·Memᴰ·not-nil}
 use mathlib.Core.Logic.{_⊎_, inl, inr, _≢_}
-use Prim.Native.Nat.{ℕ, zero, suc, _+_, _*_, _%_, _≤_, _<_}
+use Prim.Native.Nat.{ℕ, zero, suc, _+_, _*_, _≤_, _<_}
 use native.Mathlib.Decide.{ℕ-discrete}
 use native.Mathlib.Omega.{arith}
-use lib.Dec.{T, eqb}
-use lib.ListN.{length, getD, set, drop, length-set}
+use lib.Dec.{eqb}
+use lib.ListN.{length, getD, set, length-set}
 use lib.Seq.{drop-length, getD-set-same, getD-set-other}
-use borrow.Author.Tests.{eq-eqb, ne-eqb, eqb-true, eqb-false}
-use Rattle.choice.specs.Arcs.{Arc, In, bump, howMany, Set, has, vertices, without, size}
+use borrow.Author.Tests.{eq-eqb, ne-eqb, eqb-true}
+use Rattle.choice.specs.Arcs.{Arc, In, bump, howMany, Set, vertices, without, size}
 use Rattle.choice.specs.Choice.{Best}
 use Rattle.choice.specs.Degrees.{Sofar}
 use Rattle.choice.proofs.Sets.{has-lt, size-without}
 use Rattle.choice.proofs.Sofar.{sofar-best}
-use Rattle.halves.specs.Halves.{vertex, within, times, Listed, Halves, lowerAll, drop-both, seed, seedTo, raiseTo, endsTo, Ready, Going, Seeding}
+use Rattle.halves.specs.Halves.{within, times, Listed, Halves, lowerAll, drop-both, seed, seedTo, raiseTo, endsTo, Ready, Going, Seeding}
 use Rattle.halves.proofs.Leaving.{all-live, nil-times}
 use Rattle.halves.proofs.Lists.{count-append, count-one, pos-of}
 use Rattle.halves.proofs.Lowering.{lower-all-ready}
 use Rattle.halves.proofs.Phases.{AllFrom, On, lists-on, lower-all-from, none-in}
-use Rattle.halves.proofs.Start.{seeding-start, seed-turn, seeded, seeding-done}
+use Rattle.halves.proofs.Start.{seeding-start, seeded, seeding-done}
 use Rattle.halves.proofs.Whole.{pick-left, going-stable, still}
 
 -- ---- arcs that are put in

@@ -9,25 +9,24 @@ use native.Mathlib.Decide.{ℕ-discrete}
 use native.Mathlib.Nat.{add-zero}
 use native.Mathlib.Omega.{arith}
 use lib.Dec.{T, eqb, ltb}
-use lib.ListN.{length, getD, set, drop, length-append, length-drop, length-set}
-use lib.Seq.{drop-append-le, drop-cons, drop-length, getD-set-same, getD-set-other}
-use borrow.Author.Tests.{eq-eqb, ne-eqb, eqb-true, eqb-false, ltb-true}
-use Rattle.choice.specs.Arcs.{Arc, In, bump, howMany, Set, has, vertices, without, size, into}
-use Rattle.choice.specs.Choice.{core, Best}
+use lib.ListN.{length, getD, set, drop, length-drop}
+use lib.Seq.{drop-append-le, drop-cons, drop-length}
+use borrow.Author.Tests.{eq-eqb, ne-eqb, ltb-true}
+use Rattle.choice.specs.Arcs.{Arc, In, bump, howMany, Set, has, without, size}
+use Rattle.choice.specs.Choice.{core}
 use Rattle.choice.specs.Degrees.{Sofar, Frees, untouched, freed}
 use Rattle.choice.specs.Reasons.{led, Fed, Drains, drained, drain}
-use Rattle.choice.proofs.Led.{drains-led, drains-then-peels}
-use Rattle.choice.proofs.Core.{peels-core}
-use Rattle.choice.proofs.Sets.{gone, without-subset, stays, has-lt}
+use Rattle.choice.proofs.Led.{drains-led}
+use Rattle.choice.proofs.Sets.{gone, without-subset, stays}
 use Rattle.choice.proofs.Sofar.{sofar-frees, frees-size, frees-core}
-use Rattle.halves.specs.Halves.{vertex, mate, within, joins, times, Listed, Halves, lower, lowerAll, peelFrom, drop-both, raiseTo, endsTo, Between, Ready, Leaves, stayed, left, Going}
+use Rattle.halves.specs.Halves.{vertex, mate, within, times, Listed, Halves, lower, lowerAll, peelFrom, Between, Ready, Leaves, stayed, left, Going}
 use Rattle.halves.proofs.Leaving.{all-live, all-stable}
-use Rattle.halves.proofs.Lists.{count-cons, count-append, count-one, times-here}
+use Rattle.halves.proofs.Lists.{count-cons}
 use Rattle.halves.proofs.Sums.{bump-plus}
 use Rattle.halves.proofs.Lowering.{lower-all-ready}
 use Rattle.halves.proofs.Sides.{into-half, joins-other}
 use Rattle.halves.proofs.Waiting.{lower-front, lower-all-front, peel-front}
-use Rattle.halves.proofs.Whole.{leaves-frees, Emptied, peel-emptied, pick-left, still}
+use Rattle.halves.proofs.Whole.{leaves-frees, Emptied, peel-emptied, still}
 
 -- ---- what leaves
 

@@ -2,26 +2,25 @@
 -- Assumes nothing.
 use mathlib.Core.Path.{_≡_, refl, sym, ap, _∙_, subst}
 use mathlib.Core.Bool.{true, false}
-use mathlib.Core.List.{List, [], _∷_}
+use mathlib.Core.List.{List, []}
 use Prim.Native.Nat.{ℕ, _+_, _-_, _*_, _≤_, _<_}
 use native.Mathlib.Omega.{arith}
 use lib.Dec.{T}
-use lib.ListN.{length, getD, take, getD-replicate}
+use lib.ListN.{length, getD, getD-replicate}
 use lib.Seq.{getD-take, length-take-le}
 use Rattle.le.specs.Le.{Outside}
 use Rattle.le.proofs.Frames.{outside-trans}
-use Rattle.choice.specs.Arcs.{Set, has, vertices}
-use Rattle.choice.specs.Choice.{core}
-use Rattle.choice.specs.Drawing.{arcs, vertexCount, selectable}
+use Rattle.choice.specs.Arcs.{vertices}
+use Rattle.choice.specs.Drawing.{arcs, selectable}
 use Rattle.choice.proofs.Reasons.{known-start}
 use Rattle.choice.proofs.Sets.{size-vertices}
 use Rattle.choice.proofs.Sofar.{sofar-start}
 use Rattle.graph.specs.Graph.{Graph}
-use Rattle.halves.specs.Halves.{mate, within, Halves, lowerAll, peelFrom, seedTo, raiseTo, endsTo, Ready}
+use Rattle.halves.specs.Halves.{mate, within, lowerAll, peelFrom, seedTo, raiseTo, endsTo, Ready}
 use Rattle.halves.proofs.Parting.{start-ready, start-in, ends-out}
 use Rattle.incidence.specs.Incidence.{neighbours, Built}
 use Rattle.incidence.proofs.Whole.{degrees-within}
-use Rattle.tables.specs.Tables.{mostVertices, pickedAt}
+use Rattle.tables.specs.Tables.{pickedAt}
 use Rattle.removal.specs.Room.{Source, halvesIn, listIn, Roomy, Lists, Went}
 use Rattle.removal.proofs.Rooms.{roomy-all}
 use Rattle.removal.proofs.Tables.{steady-trans}

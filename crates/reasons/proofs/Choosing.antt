@@ -1,50 +1,39 @@
 -- A stage: the best node is told chosen and goes, and the two parts of the next stage's removal follow; what the queue says stays right.
 -- Assumes nothing.
 use mathlib.Core.Path.{_≡_, refl, sym, ap, _∙_, subst}
-use mathlib.Core.Bool.{Bool, true, false, _&&_, not}
 use mathlib.Core.List.{List, [], _∷_}
-use mathlib.Core.Logic.{_≢_, _⊎_, inl, inr}
-use Prim.Native.Nat.{ℕ, suc, _+_, _-_, _*_, _≤_, _<_}
-use native.Mathlib.Decide.{ℕ-discrete, decLt}
-use native.Mathlib.Nat.{eq-zero-or-pos}
+use Prim.Native.Nat.{ℕ, _+_, _-_, _*_, _≤_, _<_}
+use native.Mathlib.Decide.{ℕ-discrete}
 use native.Mathlib.Numerals.{add-one}
 use native.Mathlib.Omega.{arith}
-use lib.Dec.{T, eqb, ltb}
+use lib.Dec.{T}
 use lib.ListN.{length, getD, set, take}
 use lib.Seq.{getD-take}
-use borrow.Author.Tests.{ltb-true, lt-ltb, le-ltb}
-use Rattle.le.specs.Le.{row, Outside}
-use Rattle.choice.specs.Arcs.{Arc, Set, has, vertices, without, size, IsEmpty, Stable, into, out}
+use Rattle.le.specs.Le.{row}
+use Rattle.choice.specs.Arcs.{Set, has, vertices, without, size, into, out}
 use Rattle.choice.specs.Choice.{core, Best}
-use Rattle.choice.specs.Drawing.{arcs, vertexCount, selectable}
-use Rattle.choice.specs.Reasons.{Reason, picked, numbersOf, reason, Because, isBest}
-use Rattle.choice.proofs.Core.{core-stable, core-subset}
-use Rattle.choice.proofs.Fits.{proper-offers}
+use Rattle.choice.specs.Drawing.{arcs, selectable}
+use Rattle.choice.specs.Reasons.{picked, numbersOf, reason, Because, isBest}
 use Rattle.choice.proofs.Reasons.{known-next}
 use Rattle.choice.proofs.ReasonsGraphs.{reason-only}
 use Rattle.choice.proofs.Sets.{has-lt, stays}
 use Rattle.graph.specs.Graph.{Graph}
-use Rattle.halves.specs.Halves.{Listed, Halves, Between, lowerAll, peelFrom, drop-both, Ready, Going}
+use Rattle.halves.specs.Halves.{Listed, Halves, Between, lowerAll, peelFrom, drop-both, Going}
 use Rattle.halves.proofs.Leaving.{in-right, out-right}
 use Rattle.halves.proofs.Less.{set-less, lower-all-less, peel-less}
 use Rattle.halves.proofs.Parting.{chosen-ready, chosen-in, chosen-out, chosen-told, chosen-spent}
 use Rattle.halves.proofs.Sides.{into-half, out-half}
 use Rattle.halves.proofs.Whole.{still}
 use Rattle.incidence.specs.Incidence.{neighbours}
-use Rattle.queue.specs.Keys.{Queued}
-use Rattle.queue.specs.Places.{keysIn}
-use Rattle.queue.proofs.Nodes.{queue-lowered}
-use Rattle.tables.specs.Tables.{mostNodes, mostVertices, listsAt, waitingAt, pickedAt, queueAt}
+use Rattle.tables.specs.Tables.{mostVertices, pickedAt}
 use Rattle.removal.specs.Room.{Source, halvesIn, listIn, Roomy, Lists, Steady, Went}
 use Rattle.removal.proofs.Rooms.{roomy-all}
 use Rattle.removal.proofs.Tables.{list-same, steady-trans}
 use Rattle.removal.proofs.Peeling.{lists-same, lists-steady}
 use Rattle.removal.proofs.Picking.{roomy-drop, zeroed}
-use Rattle.cycle.specs.Next.{may, NoneKept, degreesIn, Agreed}
+use Rattle.cycle.specs.Next.{degreesIn}
 use Rattle.cycle.proofs.Begin.{Drawn}
-use Rattle.cycle.proofs.Best.{next-best, next-stuck}
-use Rattle.cycle.proofs.May.{same-may, may-edge, may-unkept, may-outside, none-outside}
-use Rattle.cycle.proofs.Staging.{keys-same, halves-same}
+use Rattle.cycle.proofs.Staging.{halves-same}
 use Rattle.reasons.specs.Told.{placeOf, entered, freedAll, waitedFrom, Says, Told, Settled, Tabled, Explaining, Chose}
 use Rattle.reasons.proofs.Parts.{all-listed, explained}
 use Rattle.reasons.proofs.Rooms.{waited-long, after-roomy, after-lists, after-walked, settled-roomy, tabled-steady, settled-is}

@@ -1,20 +1,18 @@
 -- What the call comes to: the queue is made of what the first removal left; and when all is told, the buffer is that of the definition, or 10.
 -- Assumes nothing.
 use mathlib.Core.Path.{_≡_, refl, sym, ap, _∙_, subst}
-use mathlib.Core.Bool.{true, false}
 use mathlib.Core.List.{List, [], _∷_, _++_, map}
 use mathlib.Core.Logic.{inl, inr}
 use Prim.Native.Nat.{ℕ, zero, suc, _+_, _-_, _*_, _/_, _%_, _≤_, _<_}
 use native.Mathlib.Decide.{decLt}
 use native.Mathlib.Nat.{zero-add}
 use native.Mathlib.Omega.{arith}
-use lib.ListN.{length, getD, take, drop, replicate, length-replicate, getD-replicate, length-append, length-drop, List·getD-append}
+use lib.ListN.{length, getD, drop, replicate, length-replicate, getD-replicate, length-append, length-drop, List·getD-append}
 use lib.Seq.{sets, length-sets, ext-getD, getD-drop, getD-append-add}
 use borrow.Author.Tests.{le-leb, lt-leb}
 use Rattle.le.specs.Le.{row, Outside}
 use Rattle.le.proofs.Numbers.{row-append}
 use Rattle.le.proofs.Tables.{getD-sets, getD-sets-before}
-use Rattle.choice.specs.Calls.{reasoned}
 use Rattle.choice.specs.Drawing.{chosen}
 use Rattle.choice.specs.Reasons.{Reason, picked, notLedTo, leadsToNone, numbersOf, reason, reasons}
 use Rattle.choice.proofs.ReasonsGraphs.{reasons-length}
@@ -25,7 +23,7 @@ use Rattle.graph.specs.Answer.{Answer, answered, Result, lay, _else_, _>>=_, _>
 use Rattle.graph.specs.Calls.{fit}
 use Rattle.graph.specs.Graph.{Graph}
 use Rattle.graph.specs.Lists.{joined, range}
-use Rattle.tables.specs.Tables.{mostNodes, mostVertices, pickedAt, queueAt}
+use Rattle.tables.specs.Tables.{pickedAt, queueAt}
 use Rattle.removal.specs.Room.{Source}
 use Rattle.cycle.specs.Next.{may, NoneKept, degreesIn}
 use Rattle.cycle.specs.Stage.{AllSmall, Made}

@@ -5,11 +5,11 @@ use mathlib.Core.Bool.{Bool, true, false, cond}
 use mathlib.Core.List.{List, [], _∷_, _++_, List·Memᴰ·append-cases, List·Memᴰ·eq-of-singleton, List·Memᴰ·not-nil}
 use mathlib.Core.Logic.{_≢_, _⊎_, inl, inr}
 use Prim.Native.Nat.{ℕ, zero, suc, _+_, _*_, _%_, _≤_, _<_}
-use native.Mathlib.Decide.{ℕ-discrete, decLt}
+use native.Mathlib.Decide.{decLt}
 use native.Mathlib.Numerals.{add-one}
 use native.Mathlib.Omega.{arith}
 use lib.Dec.{eqb}
-use lib.ListN.{length, getD, set, take, length-set}
+use lib.ListN.{length, getD, set, take}
 use lib.Seq.{getD-take, take-set-lt}
 use borrow.Author.Tests.{eq-eqb, ne-eqb}
 use Rattle.choice.specs.Arcs.{In}
@@ -18,8 +18,8 @@ use Rattle.graph.specs.Graph.{Graph}
 use Rattle.halves.specs.Halves.{Halves, lower, lowerAll, raiseTo, endsTo}
 use Rattle.halves.proofs.Waiting.{lower-all-front}
 use Rattle.incidence.specs.Incidence.{neighbours}
-use Rattle.tables.specs.Tables.{mostVertices, listsAt, waitingAt, pickedAt}
-use Rattle.removal.specs.Room.{Source, part, halvesIn, countOf, startOf, listIn, AllLow, Roomy, Lists, Steady, Went}
+use Rattle.tables.specs.Tables.{mostVertices, listsAt, pickedAt}
+use Rattle.removal.specs.Room.{Source, part, halvesIn, countOf, startOf, listIn, AllLow, Roomy, Steady, Went}
 use Rattle.removal.proofs.Rooms.{roomy-all}
 use Rattle.removal.proofs.Tables.{steady-none, steady-trans, steady-degree}
 use Rattle.removal.proofs.Walks.{listed-length, formed-length}

@@ -1,28 +1,26 @@
 -- A removal in two parts, in the room and in the answer buffer: what is told then are the reasons of all that went, and what is left is the core.
 -- Assumes nothing.
 use mathlib.Core.Path.{_≡_, refl, sym, ap, _∙_, subst}
-use mathlib.Core.Bool.{Bool}
 use mathlib.Core.List.{List, [], _∷_}
-use Prim.Native.Nat.{ℕ, suc, _+_, _-_, _*_, _≤_, _<_}
+use Prim.Native.Nat.{ℕ, suc, _+_, _-_, _*_, _≤_}
 use native.Mathlib.Omega.{arith}
 use lib.Dec.{T}
-use lib.ListN.{length, getD, drop}
-use Rattle.choice.specs.Arcs.{Arc, In, Set, has, vertices, size}
+use lib.ListN.{length, drop}
+use Rattle.choice.specs.Arcs.{In, Set, has, vertices, size}
 use Rattle.choice.specs.Choice.{core}
 use Rattle.choice.specs.Degrees.{Sofar}
-use Rattle.choice.specs.Drawing.{arcs, vertexCount, selectable}
-use Rattle.choice.specs.Promises.{Bounded}
+use Rattle.choice.specs.Drawing.{arcs, selectable}
 use Rattle.choice.specs.Reasons.{Reason, notLedTo, leadsToNone, numbersOf, led, reason, Because, Known}
 use Rattle.choice.proofs.Led.{led-subset}
 use Rattle.choice.proofs.Reasons.{because-drained, because-left}
 use Rattle.choice.proofs.ReasonsGraphs.{reason-only}
 use Rattle.choice.proofs.Sets.{has-lt}
-use Rattle.graph.specs.Graph.{Graph, Proper}
+use Rattle.graph.specs.Graph.{Graph}
 use Rattle.halves.specs.Halves.{Listed, Halves, lowerAll, peelFrom, Ready, Leaves, Going}
 use Rattle.halves.proofs.Phases.{AllFrom, On, mid, emptied, end, leaves-first, leaves-second, parted-going}
 use Rattle.incidence.specs.Incidence.{neighbours}
 use Rattle.incidence.proofs.Whole.{listed}
-use Rattle.tables.specs.Tables.{mostVertices, pickedAt}
+use Rattle.tables.specs.Tables.{pickedAt}
 use Rattle.removal.specs.Room.{Source, halvesIn, Roomy}
 use Rattle.cycle.proofs.Begin.{Drawn, bounded}
 use Rattle.reasons.specs.Told.{freedAll, waitedFrom, Told, Tabled, Explaining}

@@ -1,10 +1,10 @@
 -- The loop of the stages: start, turn and done. As long as something is left, the queue gives the best node of the core; when nothing is, every node is told.
 -- Assumes nothing.
 use mathlib.Core.Path.{_≡_, refl, sym, ap, _∙_, subst}
-use mathlib.Core.Bool.{Bool, true, false, _&&_, not, false≢true}
+use mathlib.Core.Bool.{Bool, true, false, false≢true}
 use mathlib.Core.List.{List, [], _∷_}
 use mathlib.Core.Logic.{_≢_, _⊎_, inl, inr}
-use Prim.Native.Nat.{ℕ, zero, suc, _+_, _-_, _*_, _≤_, _<_}
+use Prim.Native.Nat.{ℕ, zero, _+_, _-_, _*_, _≤_, _<_}
 use native.Mathlib.Decide.{decLt}
 use native.Mathlib.Nat.{eq-zero-or-pos}
 use native.Mathlib.Omega.{arith}
@@ -13,9 +13,9 @@ use lib.ListN.{length, getD}
 use borrow.Author.Tests.{lt-ltb, le-ltb}
 use Rattle.le.specs.Le.{Outside}
 use Rattle.le.proofs.Frames.{outside-trans}
-use Rattle.choice.specs.Arcs.{Arc, In, Set, has, vertices, size, IsEmpty, Stable}
+use Rattle.choice.specs.Arcs.{Set, has, vertices, size, IsEmpty}
 use Rattle.choice.specs.Choice.{core, Best, Chooses, rest, taken, stop}
-use Rattle.choice.specs.Drawing.{arcs, vertexCount, selectable, chosen}
+use Rattle.choice.specs.Drawing.{arcs, selectable, chosen}
 use Rattle.choice.proofs.Core.{core-stable}
 use Rattle.choice.proofs.Degrees.{is-true}
 use Rattle.choice.proofs.Fits.{proper-offers}
@@ -29,14 +29,14 @@ use Rattle.queue.specs.Places.{keysIn}
 use Rattle.queue.proofs.Nodes.{queue-lowered, queue-some}
 use Rattle.queue.proofs.Stored.{keys-length}
 use Rattle.halves.proofs.Leaving.{all-live}
-use Rattle.tables.specs.Tables.{mostNodes, mostVertices, waitingAt, pickedAt, queueAt}
+use Rattle.tables.specs.Tables.{pickedAt, queueAt}
 use Rattle.removal.specs.Room.{Source, Steady}
 use Rattle.cycle.specs.Next.{may, NoneKept, degreesIn, Agreed}
 use Rattle.cycle.proofs.Begin.{Drawn}
 use Rattle.cycle.proofs.Best.{next-best, next-stuck}
 use Rattle.cycle.proofs.May.{same-may, may-edge, may-unkept, may-outside, none-outside}
 use Rattle.cycle.proofs.Staging.{keys-same}
-use Rattle.reasons.specs.Told.{entered, freedAll, waitedFrom, Told, Explaining, Chose, Explained}
+use Rattle.reasons.specs.Told.{entered, freedAll, waitedFrom, Explaining, Chose, Explained}
 use Rattle.reasons.proofs.Choosing.{explaining-same, settled-state, gone-few, chose-frame, chose-explained, chose-less}
 use Rattle.reasons.proofs.Saying.{entered-outside, freed-outside}
 

@@ -8,14 +8,13 @@ use native.Mathlib.Decide.{ℕ-discrete, decLt}
 use native.Mathlib.Omega.{arith}
 use lib.Dec.{T}
 use lib.ListN.{length, getD}
-use lib.Seq.{sets}
 use Rattle.le.specs.Le.{row, Outside}
 use Rattle.le.proofs.Frames.{outside-none, outside-trans, outside-sets, outside-wider}
 use Rattle.le.proofs.Numbers.{length-row}
 use Rattle.le.proofs.Tables.{getD-sets}
 use Rattle.choice.specs.Arcs.{Arc, In, Set, has}
 use Rattle.choice.proofs.Sets.{test}
-use Rattle.choice.specs.Reasons.{Reason, numbersOf, reason}
+use Rattle.choice.specs.Reasons.{numbersOf, reason}
 use Rattle.graph.specs.Graph.{Graph}
 use Rattle.halves.specs.Halves.{vertex, Leaves}
 use Rattle.halves.proofs.Phases.{leaves-in, leaves-all}

@@ -182,7 +182,18 @@ fn first_part(out: &mut [u8], room: &mut [u8], src: &[u8], z: Sizes) -> usize
     let n = z.nodes + z.edges;
     raise_ends(room, n);
     let seeds = removal::seed_all(room, n);
-    settle(out, room, src, form::body_row(z), z.nodes, n, 0, seeds, NOT_LED_TO, 1)
+    settle(
+        out,
+        room,
+        src,
+        form::body_row(z),
+        z.nodes,
+        n,
+        0,
+        seeds,
+        NOT_LED_TO,
+        1,
+    )
 }
 
 // The first free removal, in its two parts; answered is how many vertices went.
@@ -195,7 +206,18 @@ fn first_removal(out: &mut [u8], room: &mut [u8], src: &[u8], z: Sizes) -> usize
     let mid = first_part(out, room, src, z);
     let n = z.nodes + z.edges;
     let gone = lower_ends(room, n, mid);
-    settle(out, room, src, form::body_row(z), z.nodes, n, mid, gone, LEADS_TO_NONE, 1)
+    settle(
+        out,
+        room,
+        src,
+        form::body_row(z),
+        z.nodes,
+        n,
+        mid,
+        gone,
+        LEADS_TO_NONE,
+        1,
+    )
 }
 
 // The entry of a chosen node, with its present arcs in and out.
@@ -227,19 +249,34 @@ fn choose(
     put_chosen(out, room, best, stage);
     le::set_word(room, 2 * best, 0);
     le::set_word(room, 2 * best + 1, 0);
-    let mid = walk(out, room, s, r, nodes, n, 2 * best, end, NOT_LED_TO, stage + 1);
-    walk(out, room, s, r, nodes, n, 2 * best + 1, mid, LEADS_TO_NONE, stage + 1)
+    let mid = walk(
+        out,
+        room,
+        s,
+        r,
+        nodes,
+        n,
+        2 * best,
+        end,
+        NOT_LED_TO,
+        stage + 1,
+    );
+    walk(
+        out,
+        room,
+        s,
+        r,
+        nodes,
+        n,
+        2 * best + 1,
+        mid,
+        LEADS_TO_NONE,
+        stage + 1,
+    )
 }
 
 // All stages, the first removal being done and the queue made; answered is how many nodes are chosen.
-fn explain(
-    out: &mut [u8],
-    room: &mut [u8],
-    src: &[u8],
-    z: Sizes,
-    m: usize,
-    end: usize,
-) -> usize
+fn explain(out: &mut [u8], room: &mut [u8], src: &[u8], z: Sizes, m: usize, end: usize) -> usize
     requires { ⌜ (16 * z .nodes ≤ length (now out)) × (0 < m) × (4 * (queueAt + 2 * m) ≤ length (now room)) × Stored (now src) z ⌝ }
     requires { ⌜ Explaining (source (now src) (bodyOf z)) (graphOf (now src)) (words (now room)) (now out) (z .nodes) (z .nodes + z .edges) end 1 ⌝ }
     requires { ⌜ Queued (may (words (now room)) (z .nodes)) (degreesIn (words (now room)) (z .nodes + z .edges)) (keysIn (words (now room)) queueAt m) × NoneKept (words (now room)) (z .nodes) ⌝ }

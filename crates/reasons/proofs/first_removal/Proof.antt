@@ -70,7 +70,7 @@ returns c =
     let long : pickedAt ≤ length X = omega (arith, length-words (p .last .1 .0), p .kept .1 .0) in
     let settled = subst (λ (r : Row). Settled (source (a .src .now) r) M Y (a .z .nodes) n (p .result) (t .result) (halvesIn M n (o .result))) (c .before .before .before .before .before .body-row .ensures) (t .ensures .0) in
     let is : t .last .0 ≡ freedAll (a .z .nodes) 2 1 (waitedFrom Y n (p .result) (t .result)) (freedAll (a .z .nodes) 1 1 (waitedFrom X n 0 (p .result)) (now (a .out))) =
-        t .ensures .1 ∙ ap (freedAll (a .z .nodes) 2 1 (waitedFrom Y n (p .result) (t .result))) (p .ensures .1) in (
+    t .ensures .1 ∙ ap (freedAll (a .z .nodes) 2 1 (waitedFrom Y n (p .result) (t .result))) (p .ensures .1) in (
       subst (λ (o : List ℕ). Explaining q g Y o (a .z .nodes) n (t .result) 1) (sym is) (first-explained q g (a .z .nodes) n d X M Y (p .result) (p .ensures .0) long (o .result) (o .ensures) (t .result) settled (now (a .out)) (omega arith)),
       subst (Outside 0 (16 * a .z .nodes) (now (a .out))) (sym is) (first-outside q g (a .z .nodes) n d X M Y (p .result) (p .ensures .0) long (o .result) (o .ensures) (t .result) settled (now (a .out)) (omega arith)),
     )

@@ -1,12 +1,11 @@
 -- `reasons::lower_end` meets its contract.
 -- Assumes nothing.
-use mathlib.Core.Path.{_≡_, refl, sym, ap, _∙_, subst}
+use mathlib.Core.Path.{_≡_, sym, ap, _∙_, subst}
 use Prim.Native.Nat.{ℕ, _+_, _*_}
 use native.Mathlib.Omega.{arith}
 use lib.ListN.{getD}
 use borrow.Author.Needs.{needs}
 use Rattle.le.specs.Le.{words}
-use Rattle.halves.specs.Halves.{Halves}
 use Rattle.tables.specs.Tables.{listsAt}
 use Rattle.removal.specs.Room.{halvesIn, countOf, Went}
 use Rattle.removal.proofs.Tables.{steady-none}

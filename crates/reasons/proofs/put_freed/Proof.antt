@@ -1,9 +1,9 @@
 -- `reasons::put_freed` meets its contract.
 -- Assumes nothing.
 use mathlib.Core.Path.{_≡_, refl, sym, _∙_}
-use Prim.Native.Nat.{ℕ, _+_, _-_, _≤_, _<_}
+use Prim.Native.Nat.{_+_, _-_, _≤_, _<_}
 use native.Mathlib.Omega.{arith}
-use lib.ListN.{length, getD, take}
+use lib.ListN.{length, take}
 use denote.Ref.{now}
 use Rattle.le.specs.Le.{words}
 use Rattle.le.proofs.Places.{length-words}
