@@ -10,7 +10,6 @@ use Rattle.graph.specs.Lists.{joined}
 use Rattle.graph.specs.Versions.{fitting}
 use Rattle.choice.specs.ByHand.{p2, p4, p6, p7, p9, _⟶_, none, drawing}
 use Rattle.choice.specs.Calls.{roomReasons, reasonsCall}
-use Rattle.choice.specs.Reasons.{Reason, picked, notLedTo, leadsToNone, numbersOf}
 
 -- what the call says: the numbers of the answer, how many entries there are and how many nodes are chosen; or a refusal
 pub data Said : Type 0 where
@@ -22,9 +21,19 @@ pub record Row : Type 0 where
   pub drawing : Graph
   pub says : Said
 
--- these reasons, for so many nodes, of which so many are chosen
-abbrev pub because : List Reason → ℕ → ℕ → Said
-because rs count cuts = explains (joined numbersOf rs) count cuts
+-- the four numbers of an entry, as 02 has them: 0 chosen at a stage, with so many arcs in and out; 1 freed, no core vertex leads to it; 2 freed, it leads to none
+abbrev pub cut : ℕ → ℕ → ℕ → List ℕ
+cut stage ins outs = 0 ∷ stage ∷ ins ∷ outs ∷ []
+
+abbrev pub unled : ℕ → List ℕ
+unled stage = 1 ∷ stage ∷ 0 ∷ 0 ∷ []
+
+abbrev pub nowhere : ℕ → List ℕ
+nowhere stage = 2 ∷ stage ∷ 0 ∷ 0 ∷ []
+
+-- these entries, for so many nodes, of which so many are chosen
+abbrev pub because : List (List ℕ) → ℕ → ℕ → Said
+because entries count cuts = explains (joined (λ e. e) entries) count cuts
 
 -- four nodes; 0>1, 1>1, 1>3; node 2 stands alone
 abbrev pub tailed : Graph
@@ -42,13 +51,13 @@ packetPath =
 -- which the retry loop leads to, and chooses merged; and the third frees all that is left.
 abbrev pub rows : List Row
 rows =
-    record { drawing = p2; says = because (picked 1 1 1 ∷ []) 1 1 }
-    ∷ record { drawing = p4; says = because (notLedTo 1 ∷ []) 1 0 }
-    ∷ record { drawing = p6; says = because (picked 1 1 1 ∷ notLedTo 2 ∷ []) 2 1 }
-    ∷ record { drawing = p7; says = because (picked 2 1 1 ∷ picked 1 2 2 ∷ picked 3 1 1 ∷ []) 3 3 }
+    record { drawing = p2; says = because (cut 1 1 1 ∷ []) 1 1 }
+    ∷ record { drawing = p4; says = because (unled 1 ∷ []) 1 0 }
+    ∷ record { drawing = p6; says = because (cut 1 1 1 ∷ unled 2 ∷ []) 2 1 }
+    ∷ record { drawing = p7; says = because (cut 2 1 1 ∷ cut 1 2 2 ∷ cut 3 1 1 ∷ []) 3 3 }
     ∷ record { drawing = p9 (5 ∷ 6 ∷ []); says = no 8 }
-    ∷ record { drawing = tailed; says = because (notLedTo 1 ∷ picked 1 1 1 ∷ notLedTo 1 ∷ leadsToNone 1 ∷ []) 4 1 }
-    ∷ record { drawing = packetPath; says = because (notLedTo 1 ∷ picked 2 1 1 ∷ notLedTo 3 ∷ leadsToNone 2 ∷ picked 1 1 2 ∷ notLedTo 2 ∷ notLedTo 3 ∷ leadsToNone 1 ∷ notLedTo 3 ∷ []) 9 2 }
+    ∷ record { drawing = tailed; says = because (unled 1 ∷ cut 1 1 1 ∷ unled 1 ∷ nowhere 1 ∷ []) 4 1 }
+    ∷ record { drawing = packetPath; says = because (unled 1 ∷ cut 2 1 1 ∷ unled 3 ∷ nowhere 2 ∷ cut 1 1 2 ∷ unled 2 ∷ unled 3 ∷ nowhere 1 ∷ unled 3 ∷ []) 9 2 }
     ∷ []
 
 -- what an answer says
