@@ -8,7 +8,7 @@
  *   sources, targets, ids, kept           a list of ids, as wide as in `src`: 2 bytes each in version 1, 4 in version 2
  *   labels, source_labels, target_labels  a list of labels, 4 bytes each
  *   label, v, w, edge                     one label, two node ids, an edge id
- *   out                                   gets the stored form of the answered graph
+ *   out                                   gets the stored form of the answered graph, or what the function's comment says
  *   room                                  work room, at least as long as the function's OHG_ROOM_.. says; it may begin at any address and
  *                                         hold anything, and what it holds after the call is not fixed
  *
@@ -86,6 +86,16 @@ enum ohg_refusal {
 #define OHG_LOOP_BYTES 131072
 #define OHG_LOOP_BYTES_1 8192
 
+/* The bytes of an entry that ohg_reasons answers, in both versions, and the most of all of them: 16,384 nodes, and 2,048 in version 1. */
+#define OHG_REASON_BYTES 16
+#define OHG_REASONS_BYTES 262144
+#define OHG_REASONS_BYTES_1 32768
+
+/* The kinds of such an entry: its first number. */
+#define OHG_CHOSEN 0        /* chosen at that stage, with so many arcs in and out in that stage's core */
+#define OHG_NOT_LED_TO 1    /* freed before that stage's choice: no core vertex of that stage leads to it */
+#define OHG_LEADS_TO_NONE 2 /* freed before that stage's choice: it leads to no core vertex, and some core vertex leads to it */
+
 /* The edge label that says spider. */
 #define OHG_SPIDER 4294967295u
 
@@ -107,6 +117,7 @@ static inline uint32_t ohg_width(const uint8_t *src, size_t src_len) {
 #define OHG_ROOM_CYCLE_BREAKING_NODES 1390016
 #define OHG_ROOM_CYCLE_BREAKING_NODES_KEEPING 1390016
 #define OHG_ROOM_CYCLE_BREAKING_NODES_SCANNING 114688
+#define OHG_ROOM_REASONS 1390016
 #define OHG_ROOM_FIND_LOOP 1190656
 #define OHG_ROOM_NO_LOOP 1190656
 #define OHG_ROOM_ONCE_FED 16384
@@ -218,6 +229,15 @@ uint64_t ohg_cycle_breaking_nodes_keeping(const uint8_t *src, size_t src_len, co
  * 10. */
 uint64_t ohg_cycle_breaking_nodes_scanning(const uint8_t *src, size_t src_len, const uint8_t *kept, size_t kept_len, uint8_t *list,
                                            size_t list_len, uint8_t *room, size_t room_len);
+
+/* Why each node is chosen by ohg_cycle_breaking_nodes, or was freed: `out` gets an entry of OHG_REASON_BYTES for each node, in the order of
+ * ids, four 4-byte numbers whatever the version of `src`: kind, stage, arcs in, arcs out. Stages count from 1. A stage begins with what
+ * remained after the choice before it; all that goes freely is freed, what is left is the stage's core, and one of its nodes is chosen. Whether
+ * core vertices lead to a node, or it leads to one, is meant by paths through what remained when the stage began. The arcs are 0 where freed.
+ * The last stage has an empty core, so what is freed there is OHG_NOT_LED_TO. OHG_CHOSEN stands exactly at the ids of
+ * ohg_cycle_breaking_nodes.
+ * a: entries, one for each node. b: nodes chosen. Room: OHG_ROOM_REASONS. Refusals: 10 (room), 1 to 6, 13, 8, 10. */
+uint64_t ohg_reasons(const uint8_t *src, size_t src_len, uint8_t *out, size_t out_len, uint8_t *room, size_t room_len);
 
 /* Shows one directed cycle: `list` gets its vertices, each once, as wide as in `src`, in the order in which it passes them. They are nodes and
  * edges by turns, and an edge is the node count and its id; the last leads to the first. Once all is removed that goes freely, a walk starts at
