@@ -55,6 +55,7 @@ exported! {
     ohg_cycle_breaking_nodes(src;;; list room);
     ohg_cycle_breaking_nodes_keeping(src kept;;; list room);
     ohg_cycle_breaking_nodes_scanning(src kept;;; list room);
+    ohg_reasons(src;;; out room);
     ohg_spiderize(src;;; out room);
     ohg_spiderize_nodes(src ids;;; out room);
     ohg_find_loop(src;;; list room);

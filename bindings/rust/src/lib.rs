@@ -38,6 +38,9 @@ use std::{array, fmt};
 /// The edge label that says spider; every other value is an operation.
 pub const SPIDER: u32 = u32::MAX;
 
+/// The bytes of a node's reason, in both versions of the stored form: `OHG_REASON_BYTES`.
+const REASON_BYTES: usize = 16;
+
 /// A node's id. Ids count from 0.
 #[derive(Debug, Clone, Copy, PartialEq, Eq, PartialOrd, Ord, Hash)]
 pub struct NodeId(pub u32);
@@ -73,6 +76,33 @@ pub struct Choice {
     pub nodes: Vec<NodeId>,
     /// How many nodes and edges were removed freely, since nothing led to them or they led to nothing.
     pub free: usize,
+}
+
+/// Why [`cycle_breaking_nodes`](Graph::cycle_breaking_nodes) chose a node, or why the node was freed. The choice goes by
+/// stages, counted from 1. A stage begins with what remained after the choice before it; all that goes freely is freed, what
+/// is left is the stage's core, and one of its nodes is chosen. The last stage has an empty core and chooses none. Paths are
+/// those through what remained when the stage began.
+#[derive(Debug, Clone, Copy, PartialEq, Eq, Hash)]
+pub enum Reason {
+    /// Chosen at this stage.
+    Chosen {
+        /// The stage.
+        stage: u32,
+        /// How many arcs led to the node in the stage's core.
+        arcs_in: u32,
+        /// How many arcs led on from it there.
+        arcs_out: u32,
+    },
+    /// Freed before this stage's choice: no core vertex of the stage leads to the node.
+    NotLedTo {
+        /// The stage.
+        stage: u32,
+    },
+    /// Freed before this stage's choice: the node leads to no core vertex of the stage, though some core vertex leads to it.
+    LeadsToNone {
+        /// The stage.
+        stage: u32,
+    },
 }
 
 /// A vertex of a directed cycle, which passes nodes and edges by turns.
@@ -286,6 +316,17 @@ impl Graph {
         self.choice(|list, room| ohg_cycle_breaking_nodes_scanning(&self.form, &kept, list, room))
     }
 
+    /// Why each node is chosen by [`cycle_breaking_nodes`](Graph::cycle_breaking_nodes), or was freed: one reason for each
+    /// node, in the order of ids.
+    ///
+    /// Refused: [`PendingPair`](Refusal::PendingPair).
+    pub fn reasons(&self) -> Result<Vec<Reason>, Refused> {
+        let mut entries = vec![0; REASON_BYTES * self.node_count() as usize];
+        let packed = lent::with(|lent| ohg_reasons(&self.form, &mut entries, &mut lent.room));
+        answered(packed)?;
+        Ok(entries.chunks_exact(REASON_BYTES).map(reason).collect())
+    }
+
     /// The graph with its joined nodes merged, as by [`quotient`](Graph::quotient), and then the wiring of all nodes made
     /// explicit by spiders.
     ///
@@ -438,6 +479,20 @@ fn read(form: &[u8]) -> Result<Sizes, Refused> {
         targets,
         pairs,
     })
+}
+
+/// The reason that these bytes store: kind, stage, arcs in and arcs out.
+fn reason(entry: &[u8]) -> Reason {
+    let [kind, stage, arcs_in, arcs_out] = array::from_fn(|i| number(&entry[4 * i..][..4]));
+    match kind {
+        0 => Reason::Chosen {
+            stage,
+            arcs_in,
+            arcs_out,
+        },
+        1 => Reason::NotLedTo { stage },
+        _ => Reason::LeadsToNone { stage },
+    }
 }
 
 /// The number that these bytes store.

@@ -1,6 +1,6 @@
 //! Every call, on document 01's drawings P1 to P9 and on what it is to refuse.
 
-use ohg::{Choice, EdgeId, Graph, Loop, NodeId, Refusal, Refused, Sizes, Vertex, SPIDER};
+use ohg::{Choice, EdgeId, Graph, Loop, NodeId, Reason, Refusal, Refused, Sizes, Vertex, SPIDER};
 use std::thread;
 
 fn nodes(ids: &[u32]) -> Vec<NodeId> {
@@ -190,6 +190,49 @@ fn a_loop_of_kept_nodes_is_refused() {
     // No loop, so none of kept nodes either.
     let p4 = Graph::identity(&[7]).unwrap();
     assert_eq!(choice_of_both(&p4, &[0]), chosen(&[], 1));
+}
+
+/// Document 02's reasons of P2, P6 and P7 and of the packet path, each node's in order, worked by hand.
+#[test]
+fn each_node_has_its_reason() {
+    let chosen = |stage, arcs_in, arcs_out| Reason::Chosen {
+        stage,
+        arcs_in,
+        arcs_out,
+    };
+    let not_led_to = |stage| Reason::NotLedTo { stage };
+    let leads_to_none = |stage| Reason::LeadsToNone { stage };
+    assert_eq!(Graph::empty().reasons(), Ok(vec![]));
+    assert_eq!(p2().reasons(), Ok(vec![chosen(1, 1, 1)]));
+    let p4 = Graph::identity(&[7]).unwrap();
+    assert_eq!(p4.reasons(), Ok(vec![not_led_to(1)]));
+    let of_p6 = vec![chosen(1, 1, 1), not_led_to(2)];
+    assert_eq!(p6().reasons(), Ok(of_p6.clone()));
+    let of_p7 = vec![chosen(2, 1, 1), chosen(1, 2, 2), chosen(3, 1, 1)];
+    assert_eq!(p7().reasons(), Ok(of_p7));
+
+    // In version 2 the entries are as long; nothing leads to the nodes before P6's.
+    let of_larger = [vec![not_led_to(1); 2048], of_p6].concat();
+    assert_eq!(larger_p6().reasons(), Ok(of_larger));
+
+    let path = include_bytes!("../../../examples/packet-path.ohg");
+    let of_path = vec![
+        not_led_to(1),    // arrived
+        chosen(2, 1, 1),  // merged
+        not_led_to(3),    // body
+        leads_to_none(2), // key
+        chosen(1, 1, 2),  // server
+        not_led_to(2),    // health
+        not_led_to(3),    // ready
+        leads_to_none(1), // leaving
+        not_led_to(3),    // retry
+    ];
+    let path = Graph::from_bytes(*path).unwrap();
+    assert_eq!(path.reasons(), Ok(of_path));
+    assert_eq!(path.cycle_breaking_nodes().unwrap().nodes, nodes(&[1, 4]));
+
+    let p9 = joined(p6(), &[(0, 1)]);
+    assert_eq!(p9.reasons(), Err(at(Refusal::PendingPair, 0)));
 }
 
 fn shown(vertices: &[Vertex], steps: usize) -> Result<Loop, Refused> {
