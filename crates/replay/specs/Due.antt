@@ -8,7 +8,7 @@ use lib.Dec.{eqb, leb}
 use lib.ListN.{length, take, drop, replicate}
 use Rattle.graph.specs.Answer.{Answer, Result, refused, refusal, laid, laidMap}
 use Rattle.graph.specs.Calls.{readCall, rewriteCall, emptyCall, discreteCall, identityCall, singletonCall, newNodeCall, newEdgeCall, newOperationCall, unifyCall, addEdgeSourceCall, addEdgeTargetCall, deleteEdgesCall, deleteNodesCall, quotientCall, spiderizeCall, spiderizeNodesCall, onceFedCall}
-use Rattle.choice.specs.Calls.{cycleBreakingNodesCall, cycleBreakingNodesKeepingCall, cycleBreakingNodesScanningCall, findLoopCall, noLoopCall}
+use Rattle.choice.specs.Calls.{cycleBreakingNodesCall, cycleBreakingNodesKeepingCall, cycleBreakingNodesScanningCall, findLoopCall, noLoopCall, reasonsCall}
 use Rattle.ohg.specs.Packed.{packed}
 use Rattle.replay.specs.declared.list.Record.{Record}
 
@@ -53,7 +53,8 @@ answerTo n h =
     (cond (eqb n 20) (cycleBreakingNodesKeepingCall (h .one) (h .two) (h .out) (h .room))
     (cond (eqb n 21) (cycleBreakingNodesScanningCall (h .one) (h .two) (h .out) (h .room))
     (cond (eqb n 22) (findLoopCall (h .one) (h .out) (h .room))
-    (refused (refusal 0))))))))))))))))))))))))
+    (cond (eqb n 23) (reasonsCall (h .one) (h .out) (h .room))
+    (refused (refusal 0)))))))))))))))))))))))))
 
 -- what the answer buffer holds afterwards: the two checks have none
 unfoldable pub outAfter : ℕ → Answer Result → List ℕ → List ℕ

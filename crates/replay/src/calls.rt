@@ -134,6 +134,7 @@ fn one_in_with_room(operation: u8, src: &[u8], out: &mut [u8], room: &mut [u8], 
         14 => ohg::ohg_cycle_breaking_nodes(src, out, room) == due,
         15 => ohg::ohg_spiderize(src, out, room) == due,
         22 => ohg::ohg_find_loop(src, out, room) == due,
+        23 => ohg::ohg_reasons(src, out, room) == due,
         _ => false,
     }
 }
