@@ -1,5 +1,5 @@
-//! Document 01's choice by its stages, with the count of what is removed freely, what the first of them leaves, and the no-loop
-//! check.
+//! Document 01's choice by its stages, with the count of what is removed freely, what each stage frees and chooses, what the first
+//! of them leaves, and the no-loop check.
 
 use crate::convert::Graph;
 
@@ -20,6 +20,14 @@ struct Rest {
     perhaps_loose: Vec<usize>,
 }
 
+/// A stage of the choice.
+pub struct Stage {
+    /// What goes freely before its choice: what is left is its core.
+    pub freed: Vec<usize>,
+    /// The node that is chosen, and its arcs in and out in the core; the last stage has none.
+    pub chosen: Option<(usize, [usize; 2])>,
+}
+
 /// The chosen nodes, ascending, and the number of vertices removed freely: of each stage, those outside its core.
 pub fn choice(graph: &Graph) -> (Vec<usize>, usize) {
     let none = vec![false; graph.hypergraph.nodes.len()];
@@ -34,7 +42,7 @@ pub fn choice_keeping(graph: &Graph, kept: &[bool]) -> Option<(Vec<usize>, usize
     let mut chosen = vec![];
     let mut free = 0;
     loop {
-        free += rest.take_loose();
+        free += rest.take_loose().len();
         in_core.retain(|&node| rest.left[node]);
         let score = |node: &&usize| rest.into[**node] * rest.out[**node];
         let Some(&best) = in_core.iter().max_by_key(score) else {
@@ -42,6 +50,26 @@ pub fn choice_keeping(graph: &Graph, kept: &[bool]) -> Option<(Vec<usize>, usize
             return (!rest.left.contains(&true)).then_some((chosen, free));
         };
         chosen.push(best);
+        rest.take(best);
+    }
+}
+
+/// All stages where no node is kept.
+pub fn stages(graph: &Graph) -> Vec<Stage> {
+    let mut rest = Rest::of(graph);
+    let mut in_core: Vec<usize> = (0..graph.hypergraph.nodes.len()).rev().collect();
+    let mut stages = vec![];
+    loop {
+        let freed = rest.take_loose();
+        in_core.retain(|&node| rest.left[node]);
+        let arcs = |node: usize| [rest.into[node], rest.out[node]];
+        let score = |node: &&usize| arcs(**node).iter().product::<usize>();
+        let best = in_core.iter().max_by_key(score);
+        let chosen = best.map(|&node| (node, arcs(node)));
+        stages.push(Stage { freed, chosen });
+        let Some((best, _)) = chosen else {
+            return stages;
+        };
         rest.take(best);
     }
 }
@@ -122,14 +150,14 @@ impl Rest {
         }
     }
 
-    /// Takes away vertices without an arc in or without an arc out until there is none, and says how many these were. The
-    /// core is left.
-    fn take_loose(&mut self) -> usize {
-        let mut taken = 0;
+    /// Takes away vertices without an arc in or without an arc out until there is none, and says which these were. The core is
+    /// left.
+    fn take_loose(&mut self) -> Vec<usize> {
+        let mut taken = vec![];
         while let Some(vertex) = self.perhaps_loose.pop() {
             if self.left[vertex] && (self.into[vertex] == 0 || self.out[vertex] == 0) {
                 self.take(vertex);
-                taken += 1;
+                taken.push(vertex);
             }
         }
         taken

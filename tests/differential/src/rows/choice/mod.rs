@@ -1,8 +1,10 @@
-//! The choice of cycle-breaking nodes, without kept nodes and with them, by both engines, the search for a loop, and the no-loop check.
+//! The choice of cycle-breaking nodes, without kept nodes and with them, by both engines, its reasons, the search for a loop, and the
+//! no-loop check.
 
 pub mod definition;
 pub mod families;
 pub mod keeping;
+pub mod reasons;
 pub mod showing;
 
 use crate::arguments::graph_alone;
@@ -72,6 +74,15 @@ const OPERATIONS: &[Operation] = &[
         picked: showing::picked,
         arguments: graph_alone,
         expected: showing::find_loop,
+    },
+    Operation {
+        number: 23,
+        name: "ohg_reasons",
+        parameters: &[Input, Answered, Room],
+        refusals: &[1, 2, 3, 4, 5, 6, 13, 8, 10],
+        picked: reasons::picked,
+        arguments: graph_alone,
+        expected: reasons::reasons,
     },
 ];
 

@@ -1,5 +1,5 @@
-//! Calls one after the other, each on what the port answered before: merge, choose, with kept nodes too, show a loop, which must
-//! pass a chosen node, spiderize what was chosen, and ask for loops, of which there must be none; and spiderize all, which must be as T-11 says, by both checks too, and spiderize it
+//! Calls one after the other, each on what the port answered before: merge, choose, with kept nodes too, ask for the reasons, which must
+//! say chosen of the chosen nodes, show a loop, which must pass a chosen node, spiderize what was chosen, and ask for loops, of which there must be none; and spiderize all, which must be as T-11 says, by both checks too, and spiderize it
 //! again.
 
 use super::{explicit, GROUP};
@@ -8,6 +8,7 @@ use crate::cases::random;
 use crate::classes;
 use crate::convert::{self, to_lax};
 use crate::form::{self, Refusal};
+use crate::rows::choice::reasons::ENTRY;
 use crate::run::{Amount, Run};
 use std::collections::HashSet;
 
@@ -22,6 +23,7 @@ const ONCE_FED: u8 = 18;
 const QUOTIENT: u8 = 19;
 const CYCLE_BREAKING_NODES_KEEPING: u8 = 20;
 const FIND_LOOP: u8 = 22;
+const REASONS: u8 = 23;
 
 /// Follows the chains on the graphs that spiderizing is tried on, large and small, and on more by chance.
 pub fn follow(run: &mut Run, amount: Amount) {
@@ -54,6 +56,7 @@ fn choose_on(run: &mut Run, form: &[u8]) {
     let Some(chosen) = answered(run, CYCLE_BREAKING_NODES, graph) else {
         return;
     };
+    explain_on(run, form, &chosen);
     show_on(run, form, &chosen);
     break_on(run, form, &chosen);
     // Every other one of those that were chosen is kept, and others are chosen in their place where there are such.
@@ -64,6 +67,20 @@ fn choose_on(run: &mut Run, form: &[u8]) {
     if let Some(chosen) = answered(run, CYCLE_BREAKING_NODES_KEEPING, graph_and_kept) {
         break_on(run, form, &chosen);
     }
+}
+
+/// Asks for the reasons, which say chosen of just these nodes.
+fn explain_on(run: &mut Run, form: &[u8], chosen: &Answer) {
+    let graph = Arguments::new(&[], &[form]);
+    let Some(explained) = answered(run, REASONS, graph) else {
+        return;
+    };
+    let kinds = explained.written[0].chunks(ENTRY).map(|entry| entry[0]);
+    let said = (0..).zip(kinds).filter(|(_, kind)| *kind == 0);
+    let said: Vec<u32> = said.map(|(node, _)| node).collect();
+    let list = form::id_list(&chosen.written[0], form::width(form));
+    assert_eq!(said, list, "chosen is said of the chosen nodes");
+    assert_eq!(explained.b, chosen.a, "and as many are chosen");
 }
 
 /// Shows a loop, of which a node was chosen.

@@ -1,7 +1,7 @@
 //! T-12 of document 02: one loop, found by a walk in the first core. The original finds none, so the walk is written here, and of
 //! each loop it is asked what a loop is.
 
-mod picked;
+pub mod picked;
 
 pub use picked::picked;
 

@@ -15,15 +15,22 @@ pub fn picked() -> Vec<Arguments> {
     for version in [VERSION_1, VERSION_2] {
         forms.extend(deepest(version.most.nodes).iter().map(form::write));
     }
-    // 8; 13 before it, and 6 before both. The last id is that of a pair.
-    forms.extend([p9(), p8_outgrown()].iter().map(form::write));
+    forms.extend(with_pairs());
+    let on = |form: &Vec<u8>| Arguments::new(&[], &[form]);
+    forms.iter().map(on).collect()
+}
+
+/// 8; 13 before it, and 6 before both. The last id is that of a pair.
+pub fn with_pairs() -> Vec<Vec<u8>> {
+    let mut forms = [p9(), p8_outgrown()]
+        .map(|drawing| form::write(&drawing))
+        .to_vec();
     let mut p9_in_2 = form::write_as(VERSION_2, &p9());
     forms.push(p9_in_2.clone());
     let last = p9_in_2.len() - VERSION_2.width;
     put_number(&mut p9_in_2, last, VERSION_2.width, 2);
     forms.push(p9_in_2);
-    let on = |form: &Vec<u8>| Arguments::new(&[], &[form]);
-    forms.iter().map(on).collect()
+    forms
 }
 
 /// Small drawings on which the walk has to choose.
@@ -72,7 +79,7 @@ fn turns() -> Vec<Drawing> {
 }
 
 /// With one global source more than version 1 holds.
-fn outgrown(drawing: Drawing) -> Drawing {
+pub fn outgrown(drawing: Drawing) -> Drawing {
     Drawing {
         sources: vec![0; VERSION_1.most.sources + 1],
         ..drawing
