@@ -19,10 +19,10 @@ const FILL: u8 = 0xA5;
 const NO_ROOM: u32 = u32::MAX;
 
 /// Random drawings for each function.
-const RANDOM: usize = 9;
+const RANDOM: usize = 8;
 
 /// Refused forms for each function and each refusal.
-const REFUSED: usize = 3;
+const REFUSED: usize = 2;
 
 /// Of the forms whose places are worked out by hand, each function that reads a graph has one in so many.
 const DEALT: usize = 8;
