@@ -67,8 +67,9 @@ static void check_numbers(const struct function *f, const struct graph *g, uint6
     if (f->second == NODE_ID || f->second == ENTRIES) due = g->nodes;
     if (f->second == EDGE_ID) due = g->edges;
     if (f->second == FREE) due = g->nodes + g->edges - a; /* each vertex is chosen or removed freely */
-    if (f->second != STEPS && b != due) fail(f->name, "b is what its comment says");
+    if (f->second != STEPS && f->second != CUTS && b != due) fail(f->name, "b is what its comment says");
     if (f->answers == SIZES && a != OHG_SIZES_BYTES) fail(f->name, "the sizes have 24 bytes");
+    if (f->answers == EXPLAINED && a != g->nodes) fail(f->name, "each node has an entry");
     if (f->answers == YES && a > 1) fail(f->name, "a check answers 0 or 1");
     if ((f->answers == FORM || f->answers == FORM_AND_MAP) && (a < 15 || a > OHG_FORM_BYTES)) fail(f->name, "a form has 15 to 655,385 bytes");
 }
@@ -269,6 +270,54 @@ static void check_loop(struct desk *d, const struct call *c, const struct outcom
         if (get(o->bytes[0] + width * i, width) != w.visits[steps - count + i]) fail(f->name, "it shows the loop that the walk closes");
 }
 
+/* The entries of the ids in the chosen list say chosen, and no others do. */
+static void check_said(struct desk *d, const struct call *c, const struct outcome *o) {
+    const struct function *f = &functions[c->function];
+    struct lent l;
+    uint64_t returned = follow(d, CHOOSE, c->src, (struct slice){0}, &l);
+    if (OHG_CODE(returned) || OHG_A(returned) != OHG_B(o->returned)) fail(f->name, "as many are chosen as by the choice");
+    const uint8_t *list = answered(d, &l, 0);
+    uint32_t width = ohg_width(c->src.at, c->src.len), said = 0;
+    for (uint32_t v = 0; v < OHG_A(o->returned); v++) {
+        if (get_reason(o->bytes[0] + OHG_REASON_BYTES * v).kind != OHG_CHOSEN) continue;
+        if (said == OHG_A(returned) || get(list + width * said++, width) != v) fail(f->name, "chosen is said of the chosen nodes");
+    }
+    if (said != OHG_A(returned)) fail(f->name, "chosen is said of each chosen node");
+}
+
+/* Each stage but the last chooses one node; what is freed has no arcs, and in the last stage the first kind. */
+static void check_stages(const struct function *f, const struct outcome *o) {
+    static bool chooses[NODES_MOST + 1];
+    uint32_t chosen = OHG_B(o->returned);
+    memset(chooses, false, sizeof chooses);
+    for (uint32_t v = 0; v < OHG_A(o->returned); v++) {
+        struct reason r = get_reason(o->bytes[0] + OHG_REASON_BYTES * v);
+        bool cut = r.kind == OHG_CHOSEN;
+        if (r.kind > OHG_LEADS_TO_NONE) fail(f->name, "a reason is of one of three kinds");
+        if (r.stage < 1 || r.stage > chosen + !cut) fail(f->name, "a reason is of a stage");
+        if (cut ? !r.in || !r.out : r.in || r.out) fail(f->name, "a chosen node has arcs in the core, and a freed one is told none");
+        if (r.kind == OHG_LEADS_TO_NONE && r.stage > chosen) fail(f->name, "the last stage has no core");
+        if (cut && chooses[r.stage]) fail(f->name, "a stage chooses one node");
+        chooses[r.stage] |= cut;
+    }
+}
+
+/* They are the reasons of why.c, as far as these are known. */
+static void check_reasons(struct desk *d, const struct call *c, const struct outcome *o) {
+    static struct explained e;
+    const struct function *f = &functions[c->function];
+    check_stages(f, o);
+    check_said(d, c, o);
+    explain(c->src, &e);
+    if (e.whole && e.chosen != OHG_B(o->returned)) fail(f->name, "b is how many are chosen");
+    for (uint32_t v = 0; v < e.nodes; v++) {
+        struct reason due = e.reasons[v], r = get_reason(o->bytes[0] + OHG_REASON_BYTES * v);
+        if (!due.stage) continue;
+        if (r.kind != due.kind || r.stage != due.stage) fail(f->name, "it gives the reason that paths show");
+        if (r.in != due.in || r.out != due.out) fail(f->name, "it counts the arcs in the core");
+    }
+}
+
 /* The second engine answers what the first does, whatever it is given. */
 static void check_engines(struct desk *d, const struct call *c, const struct outcome *o) {
     struct lent l;
@@ -312,6 +361,7 @@ static void check_answer(struct desk *d, const struct call *c, const struct outc
     if (c->function == REWRITE && !same) fail(f->name, "it gives the bytes that it read");
     if (f->answers == LIST) check_list(d, f, c->src, first, g);
     if (f->answers == LOOP) check_loop(d, c, o, g);
+    if (f->answers == EXPLAINED) check_reasons(d, c, o);
 }
 
 void run_case(struct desk *d, const struct call *c, struct outcome *o) {

@@ -133,6 +133,7 @@ const uint8_t *answered(const struct desk *d, const struct lent *l, int out) {
 size_t written(const struct function *f, uint32_t width, uint64_t returned, int out) {
     if (OHG_CODE(returned) != OHG_DONE) return 0;
     if (out == 1) return width * (size_t)OHG_B(returned);
+    if (f->answers == EXPLAINED) return OHG_REASON_BYTES * (size_t)OHG_A(returned);
     return f->answers == LIST || f->answers == LOOP ? width * (size_t)OHG_A(returned) : OHG_A(returned);
 }
 

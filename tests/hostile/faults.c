@@ -28,6 +28,8 @@ uint64_t __wrap_ohg_cycle_breaking_nodes_scanning(const uint8_t *src, size_t src
                                                   size_t list_len, uint8_t *room, size_t room_len);
 uint64_t __real_ohg_find_loop(const uint8_t *src, size_t src_len, uint8_t *list, size_t list_len, uint8_t *room, size_t room_len);
 uint64_t __wrap_ohg_find_loop(const uint8_t *src, size_t src_len, uint8_t *list, size_t list_len, uint8_t *room, size_t room_len);
+uint64_t __real_ohg_reasons(const uint8_t *src, size_t src_len, uint8_t *out, size_t out_len, uint8_t *room, size_t room_len);
+uint64_t __wrap_ohg_reasons(const uint8_t *src, size_t src_len, uint8_t *out, size_t out_len, uint8_t *room, size_t room_len);
 uint64_t __real_ohg_spiderize(const uint8_t *src, size_t src_len, uint8_t *out, size_t out_len, uint8_t *room, size_t room_len);
 uint64_t __wrap_ohg_spiderize(const uint8_t *src, size_t src_len, uint8_t *out, size_t out_len, uint8_t *room, size_t room_len);
 uint64_t __real_ohg_spiderize_nodes(const uint8_t *src, size_t src_len, const uint8_t *ids, size_t ids_len, uint8_t *out, size_t out_len,
@@ -641,6 +643,76 @@ uint64_t __wrap_ohg_find_loop(const uint8_t *src, size_t src_len, uint8_t *list,
     case 115: if (OHG_CODE(r) == OHG_SHORT_BUFFER && list_len) list[0] ^= 1; break;
     case 116: return paired ? placed(r, 1) : r;
     case 117: return r ? r : 1ull << 32; /* a step where there is no loop */
+    }
+    return r;
+}
+
+static void put_reason(uint8_t *entry, struct reason r) {
+    const uint32_t numbers[] = {r.kind, r.stage, r.in, r.out};
+    for (int i = 0; i < OHG_REASON_BYTES; i++) entry[i] = numbers[i / 4] >> 8 * (i % 4);
+}
+
+/* The arcs in and out of a node in the whole drawing. */
+static struct reason in_drawing(struct slice src, uint32_t node, struct reason r) {
+    static struct arcs a;
+    read_arcs(src, &a);
+    r.in = r.out = 0;
+    for (uint32_t i = 0; i < a.count; i++) {
+        r.in += a.to[i] == node;
+        r.out += a.from[i] == node;
+    }
+    return r;
+}
+
+/* Another reason in place of the one that was given to a node. */
+static struct reason misled(struct slice src, uint32_t node, struct reason r, uint32_t last) {
+    bool cut = r.kind == OHG_CHOSEN;
+    struct reason whole;
+    switch (planted()) {
+    case 120: if (!cut) r.kind = OHG_NOT_LED_TO + OHG_LEADS_TO_NONE - r.kind; break; /* the kinds exchanged */
+    case 121: /* the second where both hold: of a node that stands alone */
+        whole = in_drawing(src, node, r);
+        if (!cut && !whole.in && !whole.out) r.kind = OHG_LEADS_TO_NONE;
+        break;
+    case 122: if (r.stage == last) r.kind = OHG_LEADS_TO_NONE; break; /* the same where no loop is left */
+    case 123: r.stage--; break; /* stages from 0 */
+    case 124: if (cut) r = in_drawing(src, node, r); break; /* arcs in what remained, and before */
+    case 125: if (cut && r.stage == 1) r = (struct reason){OHG_NOT_LED_TO, 2, 0, 0}; break; /* a chosen node told as freed */
+    case 126: if (!cut && r.stage < last) r.stage++; break; /* freed in the stage before */
+    case 127: if (cut) r = (struct reason){r.kind, r.stage, r.out, r.in}; break; /* arcs exchanged */
+    case 128: if (!cut) r = in_drawing(src, node, r); break; /* arcs of what is freed */
+    case 129: if (r.in > 1) r.in--; break; /* a repeated port counted once */
+    case 130: if (!cut && r.stage > 1) r.kind = OHG_NOT_LED_TO; break; /* the second kind in the first stage alone */
+    case 131: if (cut) r.stage = last - r.stage; break; /* stages from the last on */
+    case 132: if (r.kind == OHG_NOT_LED_TO && r.stage > 1 && r.stage < last) r.stage = last; break; /* freed at the end */
+    }
+    return r;
+}
+
+/* The entries with numbers as wide as an id. */
+static void narrow_entries(uint8_t *out, uint32_t nodes, uint32_t width) {
+    for (size_t i = 0; i < 4 * (size_t)nodes; i++) memmove(out + width * i, out + 4 * i, width);
+}
+
+uint64_t __wrap_ohg_reasons(const uint8_t *src, size_t src_len, uint8_t *out, size_t out_len, uint8_t *room, size_t room_len) {
+    uint8_t before = room_len ? room[0] : 0;
+    uint64_t r = __real_ohg_reasons(src, src_len, out, out_len, room, room_len);
+    bool done = OHG_CODE(r) == OHG_DONE, paired = OHG_CODE(r) == OHG_PENDING_PAIR;
+    uint32_t nodes = OHG_A(r), cuts = OHG_B(r);
+    struct slice form = {(uint8_t *)src, src_len};
+    for (uint32_t v = 0; done && planted() >= 120 && planted() <= 132 && v < nodes; v++)
+        put_reason(out + OHG_REASON_BYTES * v, misled(form, v, get_reason(out + OHG_REASON_BYTES * v), cuts + 1));
+    switch (planted()) {
+    case 133: /* pairs are passed over */
+        if (paired) form = unpaired(src, src_len);
+        return paired ? __real_ohg_reasons(form.at, form.len, out, out_len, room, room_len) : r;
+    case 134: if (OHG_CODE(r) == OHG_SHORT_BUFFER && out_len) out[0] ^= 1; break;
+    case 135: return paired ? placed(r, 1) : r;
+    case 136: return done ? placed(r, nodes - cuts) : r; /* how many are not chosen */
+    case 137: if (done) narrow_entries(out, nodes, ohg_width(src, src_len)); break;
+    case 138: if (done && nodes) out[0] ^= before & 1; break; /* what the room held counts */
+    case 139: return paired && out_len < OHG_REASON_BYTES * (size_t)count_of(src, src_len, 0) ? OHG_SHORT_BUFFER : r; /* 10 before 8 */
+    case 140: return done ? (uint64_t)cuts << 8 | (uint64_t)nodes << 32 : r; /* a and b exchanged */
     }
     return r;
 }

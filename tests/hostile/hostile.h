@@ -16,7 +16,7 @@
 #endif
 #endif
 
-enum { FUNCTIONS = 23, CODES = 17, LISTS = 2, OUTS = 2, LENGTHS = OUTS + 1, FITS = 8, GUARD = 256 };
+enum { FUNCTIONS = 24, CODES = 17, LISTS = 2, OUTS = 2, LENGTHS = OUTS + 1, FITS = 8, GUARD = 256 };
 
 /* The most bytes that are lent: more than any of them has a use for. */
 enum { SRC_MOST = 700000, LIST_MOST = 1 << 19, OUT_MOST = OHG_FORM_BYTES + 1024, ROOM_MOST = OHG_ROOM_CYCLE_BREAKING_NODES + 4096 };
@@ -34,8 +34,8 @@ struct lent {
     struct slice src, list[LISTS], out[OUTS], room;
 };
 
-enum answers { SIZES, FORM, FORM_AND_MAP, LIST, LOOP, YES };
-enum second { NOTHING, NODE_ID, EDGE_ID, ENTRIES, FREE, STEPS }; /* what b is */
+enum answers { SIZES, FORM, FORM_AND_MAP, LIST, LOOP, EXPLAINED, YES };
+enum second { NOTHING, NODE_ID, EDGE_ID, ENTRIES, FREE, STEPS, CUTS }; /* what b is */
 enum numbers { NO_NUMBER, LABEL, TWO_NODES, EDGE_AND_LABEL };
 enum entries { NO_LIST, LABELS, NODES, EDGES }; /* of lists in the call */
 
@@ -54,7 +54,7 @@ struct function {
 
 extern const struct function functions[FUNCTIONS];
 
-enum { READ = 0, REWRITE = 1, DISCRETE = 3, DELETE_NODES = 13, SPIDERIZE = 14, SPIDERIZE_NODES = 15, CHOOSE = 16, NO_LOOP = 17, QUOTIENT = 19, KEEPING = 20, FIND_LOOP = 21, SCANNING = 22 };
+enum { READ = 0, REWRITE = 1, DISCRETE = 3, DELETE_NODES = 13, SPIDERIZE = 14, SPIDERIZE_NODES = 15, CHOOSE = 16, NO_LOOP = 17, QUOTIENT = 19, KEEPING = 20, FIND_LOOP = 21, SCANNING = 22, REASONS = 23 };
 
 /* ---- record.c: a call as the bytes of a file ---- */
 
@@ -177,6 +177,23 @@ void walk_on(const uint32_t *onward, uint32_t start, struct walked *w);
 void walk(struct slice src, struct walked *w);
 /* The form of a ring of so many nodes, of version 2; returns its length. The walk passes all nodes and edges of it. */
 size_t ring_form(uint32_t nodes, uint8_t *form);
+
+/* ---- why.c: why each node is chosen or freed, written from T-04's text apart from the port ---- */
+
+struct reason {
+    uint32_t kind, stage, in, out;
+};
+
+struct explained {
+    bool whole; /* all stages were gone through, which a large graph's are not: there what has not gone yet has stage 0 */
+    uint32_t nodes, chosen;
+    struct reason reasons[NODES_MOST];
+};
+
+/* The reasons in the graph of a form that is taken and has no pairs. */
+void explain(struct slice src, struct explained *e);
+/* An entry of 16 bytes. */
+struct reason get_reason(const uint8_t *entry);
 
 /* ---- cases.c: calls that belong together ---- */
 
