@@ -175,7 +175,7 @@ fn call_at(address: usize, name: &str) -> Result<Call, String> {
                 unsafe { f(s.0, s.1, out.0, out.1, map.0, map.1, room.0, room.1) }
             })
         }
-        "ohg_spiderize" | "ohg_cycle_breaking_nodes" | "ohg_find_loop" => {
+        "ohg_spiderize" | "ohg_cycle_breaking_nodes" | "ohg_reasons" | "ohg_find_loop" => {
             let f = function!(*const u8, usize, *mut u8, usize, *mut u8, usize);
             Box::new(move |src, lent_too| {
                 let (s, out) = (lent(src), writable(&mut lent_too.out));
@@ -207,7 +207,7 @@ enum Beside {
     EveryEighth,
 }
 
-const CALLS: [(&str, Inputs, Beside); 20] = [
+const CALLS: [(&str, Inputs, Beside); 21] = [
     ("ohg_read", RANDOM, Beside::Nothing),
     ("ohg_rewrite", RANDOM, Beside::Nothing),
     ("ohg_discrete", NODES, Beside::Nothing),
@@ -229,6 +229,7 @@ const CALLS: [(&str, Inputs, Beside); 20] = [
     ),
     ("ohg_cycle_breaking_nodes", BARE, Beside::Nothing),
     ("ohg_cycle_breaking_nodes_keeping", BARE, Beside::Nothing),
+    ("ohg_reasons", BARE, Beside::Nothing),
     ("ohg_find_loop", RINGS, Beside::Nothing),
     ("ohg_no_loop", TREES, Beside::Nothing),
     ("ohg_once_fed", RINGS, Beside::Nothing),

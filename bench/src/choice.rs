@@ -27,7 +27,7 @@ mod exported {
 
 // SAFETY, of both: each part is lent for the call, with its own length.
 
-fn ohg_cycle_breaking_nodes(src: &[u8], list: &mut [u8], room: &mut [u8]) -> u64 {
+pub fn ohg_cycle_breaking_nodes(src: &[u8], list: &mut [u8], room: &mut [u8]) -> u64 {
     unsafe {
         exported::ohg_cycle_breaking_nodes(
             src.as_ptr(),

@@ -7,6 +7,7 @@ use crate::building::{
 use crate::choice::{cycle_breaking_nodes, no_loop};
 use crate::deleting::{delete_edges, delete_nodes};
 use crate::drawings::every_eighth;
+use crate::explaining::reasons;
 use crate::inputs::{
     Inputs, BARE, EIGHTH_OF_JOINED, EIGHTH_TO_SPIDERIZE, FALLING, GLOBAL_NODES, JOINED,
     JOINED_TO_SPIDERIZE, KEEPING, NODES, NOTHING, ONE_EDGE, RANDOM, RINGS, RISING, TO_ADD_TO,
@@ -46,7 +47,7 @@ const WITHOUT_ROOM: [(&str, Inputs, Times); 12] = [
     ("ohg_add_edge_target", TO_ADD_TO, add_edge_target),
 ];
 
-const IN_ROOM: [(&str, Inputs, TimesInRoom); 16] = [
+const IN_ROOM: [(&str, Inputs, TimesInRoom); 17] = [
     ("ohg_delete_edges", RANDOM, delete_edges),
     ("ohg_delete_nodes", RANDOM, delete_nodes),
     ("ohg_quotient", JOINED, quotient),
@@ -59,6 +60,7 @@ const IN_ROOM: [(&str, Inputs, TimesInRoom); 16] = [
     ("ohg_cycle_breaking_nodes", BARE, cycle_breaking_nodes),
     ("ohg_cycle_breaking_nodes_keeping", KEEPING, keeping_a_tenth),
     ("ohg_cycle_breaking_nodes_scanning", BARE, scanning),
+    ("ohg_reasons", BARE, reasons),
     ("ohg_find_loop", BARE, find_loop),
     ("ohg_find_loop", RINGS, find_loop),
     ("ohg_no_loop", TREES, no_loop),

@@ -1,5 +1,5 @@
 //! Measures each exported function beside the original and plain Rust, on the same inputs in one process, and prints
-//! tables for docs/MEASURES.md; or, by `scanning`, the second engine beside the first; or, by `growth FILE.svg`, how the time of each grows with its drawing; or, by `between
+//! tables for docs/MEASURES.md; or, by `scanning`, the second engine beside the first; or, by `reasons`, the reasons beside the choice; or, by `growth FILE.svg`, how the time of each grows with its drawing; or, by `between
 //! BEFORE.a NOW.a`, two builds of the port beside each other; or, by `calls ARCHIVE.a NAME TIMES`, nothing: it only makes
 //! the calls.
 //!
@@ -12,6 +12,7 @@ mod building;
 mod choice;
 mod deleting;
 mod drawings;
+mod explaining;
 mod growth;
 mod inputs;
 mod keeping;
@@ -37,13 +38,14 @@ fn main() -> ExitCode {
     let measured = match &arguments[..] {
         [] => measure(),
         [mode] if mode == "scanning" => scanning::measure(),
+        [mode] if mode == "reasons" => explaining::measure_alone(),
         [mode, file] if mode == "growth" => growth::measure(file),
         [mode, before, now] if mode == "between" => between::measure(before, now),
         [mode, archive, name, times] if mode == "calls" => {
             between::make_calls(archive, name, times)
         }
         _ => Err(
-            "usage: cargo run --release [-- scanning | -- growth FILE.svg | -- between BEFORE.a NOW.a | -- calls ARCHIVE.a NAME TIMES]"
+            "usage: cargo run --release [-- scanning | -- reasons | -- growth FILE.svg | -- between BEFORE.a NOW.a | -- calls ARCHIVE.a NAME TIMES]"
                 .to_string(),
         ),
     };
@@ -66,6 +68,7 @@ fn measure() -> Result<(), String> {
     tables.extend(merging::measure(&rooms)?);
     tables.extend(choice::measure(&rooms)?);
     tables.extend(keeping::measure(&rooms)?);
+    tables.extend(explaining::measure(&rooms)?);
     tables.extend(showing::measure(&rooms)?);
     tables.extend(once_fed::measure(&rooms)?);
     tables.extend(spidering::measure(&rooms)?);

@@ -34,6 +34,7 @@ pub fn print_rounds() {
 pub const ORIGINAL: [&str; 2] = ["original (decoded)", "original (stored)"];
 pub const PLAIN_CHECK: [&str; 2] = ["plain check (decoded)", "plain check (stored)"];
 pub const PLAIN_WALK: [&str; 2] = ["plain walk (decoded)", "plain walk (stored)"];
+pub const CHOICE_AND_PLAIN: [&str; 3] = ["choice", "plain paths (decoded)", "plain paths (stored)"];
 
 /// The ratios of one row of a table: the port's time to each of what it stands beside.
 struct Row {
@@ -109,10 +110,9 @@ impl Table {
 
     /// The column of what is given a graph in memory, if there is one.
     fn in_memory(&self) -> Option<usize> {
-        [&ORIGINAL, &PLAIN_CHECK, &PLAIN_WALK]
+        self.beside
             .iter()
-            .any(|sides| self.beside == *sides)
-            .then_some(0)
+            .position(|side| side.ends_with("(decoded)"))
     }
 
     /// The column of what takes and gives the same.

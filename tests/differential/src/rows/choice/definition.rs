@@ -2,6 +2,8 @@
 //! of them leaves, and the no-loop check.
 
 use crate::convert::Graph;
+use std::cmp::Reverse;
+use std::collections::BinaryHeap;
 
 /// The arcs by their ends: from each source node to its edge, from each edge to its target node. Edges are numbered on
 /// after the nodes.
@@ -44,7 +46,7 @@ pub fn choice_keeping(graph: &Graph, kept: &[bool]) -> Option<(Vec<usize>, usize
     loop {
         free += rest.take_loose().len();
         in_core.retain(|&node| rest.left[node]);
-        let score = |node: &&usize| rest.into[**node] * rest.out[**node];
+        let score = |node: &&usize| rest.score(**node);
         let Some(&best) = in_core.iter().max_by_key(score) else {
             chosen.sort_unstable();
             return (!rest.left.contains(&true)).then_some((chosen, free));
@@ -54,24 +56,31 @@ pub fn choice_keeping(graph: &Graph, kept: &[bool]) -> Option<(Vec<usize>, usize
     }
 }
 
-/// All stages where no node is kept.
+/// All stages where no node is kept. Scores never rise, so the nodes wait by the score that they had when they were last looked
+/// at.
 pub fn stages(graph: &Graph) -> Vec<Stage> {
     let mut rest = Rest::of(graph);
-    let mut in_core: Vec<usize> = (0..graph.hypergraph.nodes.len()).rev().collect();
+    let mut freed = rest.take_loose();
+    let by_score = |node: usize, rest: &Rest| (rest.score(node), Reverse(node));
+    let left = (0..graph.hypergraph.nodes.len()).filter(|&node| rest.left[node]);
+    let mut waiting: BinaryHeap<_> = left.map(|node| by_score(node, &rest)).collect();
     let mut stages = vec![];
-    loop {
-        let freed = rest.take_loose();
-        in_core.retain(|&node| rest.left[node]);
-        let arcs = |node: usize| [rest.into[node], rest.out[node]];
-        let score = |node: &&usize| arcs(**node).iter().product::<usize>();
-        let best = in_core.iter().max_by_key(score);
-        let chosen = best.map(|&node| (node, arcs(node)));
+    while let Some((score, Reverse(node))) = waiting.pop() {
+        if !rest.left[node] {
+            continue;
+        }
+        if score > rest.score(node) {
+            waiting.push(by_score(node, &rest));
+            continue;
+        }
+        let chosen = Some((node, [rest.into[node], rest.out[node]]));
         stages.push(Stage { freed, chosen });
-        let Some((best, _)) = chosen else {
-            return stages;
-        };
-        rest.take(best);
+        rest.take(node);
+        freed = rest.take_loose();
     }
+    let chosen = None;
+    stages.push(Stage { freed, chosen });
+    stages
 }
 
 /// For each vertex of the first core the lowest there that an arc leads to from it; none for those outside of it.
@@ -148,6 +157,10 @@ impl Rest {
             self.out[from] -= 1;
             self.perhaps_loose.push(from);
         }
+    }
+
+    fn score(&self, vertex: usize) -> usize {
+        self.into[vertex] * self.out[vertex]
     }
 
     /// Takes away vertices without an arc in or without an arc out until there is none, and says which these were. The core is

@@ -45,19 +45,24 @@ pub fn reasons(arguments: &Arguments) -> Outcome {
     Ok(Answer {
         a: reasons.len() as u32,
         b: reasons.iter().filter(is_chosen).count() as u32,
-        written: vec![reasons.iter().flat_map(entry).collect()],
+        written: vec![entries(&reasons)],
     })
 }
 
+/// The answer as bytes.
+pub fn entries(reasons: &[Reason]) -> Vec<u8> {
+    reasons.iter().flat_map(entry).collect()
+}
+
 /// Kind, stage, arcs in and arcs out, 4 bytes each.
-fn entry(reason: &Reason) -> Vec<u8> {
+fn entry(reason: &Reason) -> impl Iterator<Item = u8> {
     let numbers = match *reason {
         Reason::Chosen { stage, into, out } => [0, stage, into, out],
         Reason::NotLedTo { stage } => [1, stage, 0, 0],
         Reason::LeadsToNone { stage } => [2, stage, 0, 0],
     };
     let bytes = |n: usize| (n as u32).to_le_bytes();
-    numbers.into_iter().flat_map(bytes).collect()
+    numbers.into_iter().flat_map(bytes)
 }
 
 /// The reasons of the nodes, stage by stage. A way from the core to a vertex that is freed leaves the core once for good, and goes on
