@@ -10,3 +10,4 @@ pub mod Ending
 pub mod Flags
 pub mod Calls
 pub mod Entries
+pub mod Counted

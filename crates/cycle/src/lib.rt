@@ -7,7 +7,7 @@ ghost use lib.ListN.{length, getD};
 ghost use Rattle.tables.specs.Tables.{mostNodes, mostVertices, pickedAt, queueAt, roomRemoval, roomChoice};
 ghost use Rattle.le.specs.Le.{words, Wide, Below};
 ghost use Rattle.le.specs.Rows.{Holds, rowAt, span, puts};
-ghost use Rattle.choice.specs.Drawing.{noLoop};
+ghost use Rattle.choice.specs.Drawing.{chosen, noLoop};
 ghost use Rattle.choice.specs.Calls.{listing, noLoopCall, cycleBreakingNodesCall, cycleBreakingNodesKeepingCall};
 ghost use Rattle.form.specs.Form.{bodyOf, outcome, Gives};
 ghost use Rattle.graph.specs.Graph.{Format};
@@ -408,4 +408,17 @@ pub fn cycle_breaking_nodes(src: &[u8], list: &mut [u8], room: &mut [u8]) -> Out
         return Outcome::Refused(pairs.refusal());
     };
     choose(src, z, &src[0..0], 0, list, room)
+}
+
+// How many nodes the choice of a stored drawing has, where no node is kept.
+pub fn count_chosen(room: &mut [u8], src: &[u8], z: Sizes) -> usize
+    requires { ⌜ roomChoice ≤ length (now room) ⌝ }
+    requires { ⌜ Stored (now src) z ⌝ }
+    ensures { λ r. ⌜ r ≡ length (chosen (graphOf (now (src .entry))) .ids) ⌝ }
+{
+    let flagged = flag_nodes(room, src, z, &src[0..0], 0);
+    let Step::Number(free) = flagged else {
+        return 0; // never: 16 is for kept nodes
+    };
+    z.nodes + z.edges - free
 }

@@ -41,29 +41,15 @@ use Rattle.choice.proofs.Shown.{none-or-shown, shown-empty-iff-no-cycle, steps-
 use Rattle.choice.proofs.ShownStored.{shown-fits, find-loop-answer}
 use Rattle.choice.proofs.Spiderized.{chosen-spiderized-no-cycle, keeping-spiderized-no-cycle, spiderized-choice-answer, spiderized-keeping-answer}
 use Rattle.choice.proofs.Stored.{cycle-breaking-nodes-answer, no-loop-answer}
-use Rattle.ohg.specs.Packed.{packed, Returns, Ranged}
-use Rattle.ohg.specs.Unpacked.{codeIn, aIn, bIn}
-use Rattle.ohg.specs.Caller.{widthIn, listBytes, listed, Draws, ToldChoice, idsGiven, Keepable, ToldKeeping, ToldKeptCycle, ToldSpiderized, ToldNoLoop, ToldLoop}
+use Rattle.packing.specs.Packed.{packed, Returns, Ranged}
+use Rattle.packing.specs.Unpacked.{codeIn, aIn, bIn}
+use Rattle.packing.specs.Caller.{Draws}
+use Rattle.ohg.specs.Caller.{widthIn, listBytes, listed, ToldChoice, idsGiven, Keepable, ToldKeeping, ToldKeptCycle, ToldSpiderized, ToldNoLoop, ToldLoop}
 use Rattle.ohg.proofs.Ranges.{cycle-breaking-nodes-ranged, cycle-breaking-nodes-keeping-ranged, spiderize-nodes-ranged, no-loop-ranged, find-loop-ranged}
-use Rattle.ohg.proofs.Unpacked.{code-of-packed, a-of-packed, b-of-packed}
+use Rattle.packing.proofs.Unpacked.{code-of-packed, b-of-packed}
+use Rattle.packing.proofs.Caller.{answer-of, draws, front, kept}
 
--- ---- a code of 0 is an answer, and a and b are its numbers
-
-pub answer-of : (x : Answer Result) {r : ℕ} → Ranged x → r ≡ packed x → codeIn r ≡ 0 → (y : Result) × (x ≡ answered y) × (aIn r ≡ y .a) × (bIn r ≡ y .b)
-answer-of (refused q) h e code = absurd (omega (arith, code-of-packed (refused q) h e, h .no q refl .0))
-answer-of (answered y) h e code = (y, refl, a-of-packed (answered y) h e, b-of-packed (answered y) h e)
-
--- ---- bytes that are read are a graph, and the caller knows the width of its lists
-
-pub draws : (b : List ℕ) → Below 256 b → (s : StoredGraph) → read b ≡ answered s → Draws b (s .graph)
-draws b t s p =
-    let h = read-sound b s t p in
-    let f : s .format ≡ fitting (s .graph) = sym (h .fits) in
-    record {
-      stored = p ∙ (λ i. answered (record { format = f i; graph = s .graph }));
-      written = ap (λ (k : Format). encode k (s .graph)) (h .fits) ∙ h .whole;
-      formed = subst (λ (k : Format). WellFormed k (s .graph)) f (h .formed);
-    }
+-- ---- the caller knows the width of a graph's lists
 
 -- the width that goes with a version's number
 abbrev widthNumbered : ℕ → ℕ
@@ -85,15 +71,6 @@ width-read b s p =
     let p₂ = came (formatNumbered (p₁ .0)) _ (p₁ .2) in
     let p₃ = came (readFitting (p₂ .0) b) _ (p₂ .2) in
     ap widthNumbered (same-answer (q₂ .1)) ∙ width-of (p₁ .0) (p₂ .0) (p₂ .1) ∙ ap (λ (k : StoredGraph). k .format .width) (same-answer (p₃ .2))
-
--- ---- an answer buffer: its front is the answer, and what is behind it stays
-
-module _ (bytes old new : List ℕ) (n : ℕ) (buffer : new ≡ bytes ++ drop (length bytes) old) (long : length bytes ≡ n) where
-  front : take n new ≡ bytes
-  front = ap (take n) buffer ∙ take-at bytes (drop (length bytes) old) n long
-
-  pub kept : drop n new ≡ drop n old
-  kept = ap (drop n) buffer ∙ drop-at bytes (drop (length bytes) old) n long ∙ ap (λ k. drop k old) long
 
 -- ---- spiderizing at a list that the choice gave, which every directed cycle meets
 

@@ -10,10 +10,11 @@ use Rattle.graph.specs.Answer.{Answer, Result, laid}
 use Rattle.graph.specs.Graph.{Graph}
 use Rattle.choice.specs.Calls.{roomCycleBreakingNodes, cycleBreakingNodesKeepingCall, roomCycleBreakingNodesScanning, cycleBreakingNodesScanningCall}
 use Rattle.choice.proofs.Sweeps.{engines-agree, scanned-kept}
-use Rattle.ohg.specs.Packed.{packed, Returns}
-use Rattle.ohg.specs.Unpacked.{codeIn}
+use Rattle.packing.specs.Packed.{packed, Returns}
+use Rattle.packing.specs.Unpacked.{codeIn}
+use Rattle.packing.proofs.Caller.{answer-of}
 use Rattle.ohg.specs.Caller.{ToldKeeping}
-use Rattle.ohg.proofs.Caller.{answer-of, keeping-for-the-caller}
+use Rattle.ohg.proofs.Caller.{keeping-for-the-caller}
 use Rattle.ohg.proofs.Ranges.{cycle-breaking-nodes-scanning-ranged}
 
 -- the same bytes, the same kept list and list buffers of one length, each engine lent the work room that it needs: the same number is returned, and

@@ -12,10 +12,10 @@ use Rattle.graph.specs.Calls.{spiderizeCall}
 use Rattle.graph.proofs.ExplicitCall.{spiderize-all-answer}
 use Rattle.choice.specs.Explicit.{ExplicitForm}
 use Rattle.choice.proofs.Explicit.{spiderize-call-explicit}
-use Rattle.ohg.specs.Packed.{packed, Returns, Ranged}
-use Rattle.ohg.specs.Unpacked.{codeIn, aIn}
+use Rattle.packing.specs.Packed.{packed, Returns, Ranged}
+use Rattle.packing.specs.Unpacked.{codeIn, aIn}
 use Rattle.ohg.proofs.Ranges.{spiderize-ranged}
-use Rattle.ohg.proofs.Unpacked.{code-of-packed, a-of-packed}
+use Rattle.packing.proofs.Unpacked.{code-of-packed, a-of-packed}
 
 -- where the code is 0, the first a bytes of the buffer are a form that is explicit
 pub spiderized-all-for-the-caller : (src : List ℕ) → Below 256 src → (workRoom r : ℕ) (old new : List ℕ) → Returns (spiderizeCall src (length old) workRoom) r old new → codeIn r ≡ 0

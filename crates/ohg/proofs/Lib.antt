@@ -1,6 +1,4 @@
 pub mod Ranges
-pub mod Packing
-pub mod Unpacked
 pub mod Caller
 pub mod Engines
 pub mod Explicit

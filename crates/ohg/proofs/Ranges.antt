@@ -29,7 +29,7 @@ use Rattle.graph.proofs.RefusedBy.{read-call-by, rewrite-by, empty-by, discrete
 use Rattle.choice.proofs.RefusedBy.{cycle-breaking-nodes-by, cycle-breaking-nodes-keeping-by, cycle-breaking-nodes-scanning-by, no-loop-by, find-loop-by, reasons-by}
 use Rattle.graph.proofs.Steps.{same-answer, came}
 use Rattle.graph.proofs.Versions.{read-sound, longest}
-use Rattle.ohg.specs.Packed.{Ranged}
+use Rattle.packing.specs.Packed.{Ranged}
 
 -- ---- the id that a step gives is one of the counts of a graph within the limits, or 0
 

@@ -24,10 +24,10 @@ use Rattle.choice.specs.Reasons.{Reason, picked, notLedTo, leadsToNone, numbers
 use Rattle.choice.proofs.Graphs.{every-run-gives-chosen}
 use Rattle.choice.proofs.ReasonsGraphs.{reasons-length, reasons-at, reason-true, reason-only, picked-iff-chosen}
 use Rattle.choice.proofs.ReasonsStored.{reasons-answer}
-use Rattle.ohg.specs.Packed.{Returns}
-use Rattle.ohg.specs.Unpacked.{codeIn, aIn}
+use Rattle.packing.specs.Packed.{Returns}
+use Rattle.packing.specs.Unpacked.{codeIn, aIn}
 use Rattle.ohg.specs.Reasons.{entryIn, kindIn, ToldReasons}
-use Rattle.ohg.proofs.Caller.{answer-of, draws, kept}
+use Rattle.packing.proofs.Caller.{answer-of, draws, kept}
 use Rattle.ohg.proofs.Ranges.{reasons-ranged}
 
 -- numbers that end before what follows

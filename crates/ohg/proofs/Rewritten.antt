@@ -13,10 +13,10 @@ use Rattle.graph.specs.Calls.{Next, fit, made, onGraph, rewriteStep, rewriteCal
 use Rattle.graph.specs.Versions.{StoredGraph, read, store}
 use Rattle.graph.proofs.Steps.{goes, came, passed, same-answer}
 use Rattle.graph.proofs.Versions.{read-store}
-use Rattle.ohg.specs.Packed.{packed, Returns, Ranged}
-use Rattle.ohg.specs.Unpacked.{codeIn, aIn}
+use Rattle.packing.specs.Packed.{packed, Returns, Ranged}
+use Rattle.packing.specs.Unpacked.{codeIn, aIn}
 use Rattle.ohg.proofs.Ranges.{rewrite-ranged}
-use Rattle.ohg.proofs.Unpacked.{code-of-packed, a-of-packed}
+use Rattle.packing.proofs.Unpacked.{code-of-packed, a-of-packed}
 
 fits : (room : ℕ) (b : List ℕ) → length b ≤ room → fit room b ≡ answered b
 unfolding fit _else_ _>>_

@@ -21,7 +21,8 @@ use Rattle.choice.specs.Keeping.{unkept, KeptCycle}
 use Rattle.choice.specs.Loop.{firstCore, since, Lowest, Walks}
 use Rattle.choice.specs.Promises.{NoneOrShown}
 use Rattle.choice.specs.Simple.{SimpleCycle}
-use Rattle.ohg.specs.Unpacked.{aIn, bIn}
+use Rattle.packing.specs.Unpacked.{aIn, bIn}
+use Rattle.packing.specs.Caller.{Draws}
 
 -- the bytes of an id in the lists of a call on these bytes, as ohg_width of the header tells them: 4 where the version is 2, else 2
 abbrev pub widthIn : List ℕ → ℕ
@@ -33,15 +34,6 @@ listBytes b r = aIn r * widthIn b
 
 abbrev pub listed : List ℕ → ℕ → List ℕ → List ℕ
 listed b r list = numbers (widthIn b) (aIn r) list
-
--- the bytes b are the graph g
-pub record Draws (b : List ℕ) (g : Graph) : Type 0 where
-  -- they are read as it
-  pub stored : read b ≡ answered (record { format = fitting g; graph = g })
-  -- and are what writing it gives
-  pub written : encode (fitting g) g ≡ b
-  -- it is within the limits of its version, and its ids are below its node count
-  pub formed : WellFormed (fitting g) g
 
 -- ohg_cycle_breaking_nodes on the bytes b returned r, and its list buffer was old and is new
 pub record ToldChoice (b : List ℕ) (r : ℕ) (old new : List ℕ) (g : Graph) : Type 0 where

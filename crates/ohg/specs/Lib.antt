@@ -1,4 +1,2 @@
-pub mod Packed
-pub mod Unpacked
 pub mod Caller
 pub mod Reasons

@@ -11,8 +11,8 @@ use Rattle.choice.specs.Arcs.{In, vertices}
 use Rattle.choice.specs.Choice.{Chooses}
 use Rattle.choice.specs.Drawing.{arcs, vertexCount, selectable}
 use Rattle.choice.specs.Reasons.{Reason, numbersOf, Because}
-use Rattle.ohg.specs.Caller.{Draws}
-use Rattle.ohg.specs.Unpacked.{aIn, bIn}
+use Rattle.packing.specs.Caller.{Draws}
+use Rattle.packing.specs.Unpacked.{aIn, bIn}
 
 -- the four numbers of entry v in a buffer, and the first of them
 abbrev pub entryIn : ℕ → List ℕ → ℕ → List ℕ

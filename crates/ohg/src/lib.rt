@@ -1,33 +1,10 @@
 // The functions that the tool calls from C. Each checks its input itself, and returns code, a and b packed into one number.
 ghost use mathlib.Core.Path.{_≡_};
 ghost use lib.ListN.{length};
-ghost use Prim.Native.Nat.{min};
 ghost use Rattle.graph.specs.Calls.{readCall, rewriteCall, emptyCall, discreteCall, identityCall, singletonCall, newNodeCall, newEdgeCall, newOperationCall, unifyCall, addEdgeSourceCall, addEdgeTargetCall, deleteEdgesCall, deleteNodesCall, quotientCall, spiderizeCall, spiderizeNodesCall, onceFedCall};
 ghost use Rattle.choice.specs.Calls.{cycleBreakingNodesCall, cycleBreakingNodesKeepingCall, cycleBreakingNodesScanningCall, noLoopCall, findLoopCall, reasonsCall};
-ghost use Rattle.ohg.specs.Packed.{packed, Returns, ReturnsMap, packedOutcome, Packs};
-use form::Outcome;
-
-// A place in the 32 bits that are there for it: one that has more is given as the highest number.
-fn place_in_32_bits(place: usize) -> u64
-    ensures { λ r. ⌜ r ≡ min place 4294967295 ⌝ }
-{
-    if place < 4294967295 {
-        place as u64
-    } else {
-        4294967295
-    }
-}
-
-// What a call answered, as one number: code, a and b in 8, 24 and 32 bits. On a refusal b is its place.
-fn pack(x: Outcome) -> u64
-    requires { ⌜ Packs x ⌝ }
-    ensures { λ r. ⌜ r ≡ packedOutcome x ⌝ }
-{
-    match x {
-        Outcome::Done { a, b } => 256 * (a as u64) + 4294967296 * (b as u64),
-        Outcome::Refused(x) => x.no as u64 + 4294967296 * place_in_32_bits(x.place),
-    }
-}
+ghost use Rattle.packing.specs.Packed.{packed, Returns, ReturnsMap};
+use packing::pack;
 
 // The sizes of the graph: nodes, edges, ports, global sources, global targets, pairs.
 #[no_mangle]

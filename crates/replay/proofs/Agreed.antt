@@ -11,7 +11,7 @@ use lib.Seq.{ext-getD, getD-set-same, getD-set-other}
 use borrow.Author.Count.{below-more}
 use borrow.Author.Tests.{eqb-true}
 use Rattle.graph.specs.Answer.{Answer, Result, laid, laidMap}
-use Rattle.ohg.specs.Packed.{packed, Returns, ReturnsMap}
+use Rattle.packing.specs.Packed.{packed, Returns, ReturnsMap}
 use Rattle.replay.specs.declared.list.Record.{Record}
 use Rattle.replay.specs.Due.{partOf, Handed, answerTo, outAfter, mapAfter, Agreed, handedBy, filled, Due}
 

@@ -9,7 +9,7 @@ use lib.ListN.{length, take, drop, replicate}
 use Rattle.graph.specs.Answer.{Answer, Result, refused, refusal, laid, laidMap}
 use Rattle.graph.specs.Calls.{readCall, rewriteCall, emptyCall, discreteCall, identityCall, singletonCall, newNodeCall, newEdgeCall, newOperationCall, unifyCall, addEdgeSourceCall, addEdgeTargetCall, deleteEdgesCall, deleteNodesCall, quotientCall, spiderizeCall, spiderizeNodesCall, onceFedCall}
 use Rattle.choice.specs.Calls.{cycleBreakingNodesCall, cycleBreakingNodesKeepingCall, cycleBreakingNodesScanningCall, findLoopCall, noLoopCall, reasonsCall}
-use Rattle.ohg.specs.Packed.{packed}
+use Rattle.packing.specs.Packed.{packed}
 use Rattle.replay.specs.declared.list.Record.{Record}
 
 -- the bytes of the list from one place up to another, none where they do not lie in it

@@ -5,7 +5,7 @@ use lib.ListN.{length}
 use denote.Ref.{now}
 use borrow.Author.Needs.{needs}
 use Rattle.le.proofs.Numbers.{below-each}
-use Rattle.ohg.proofs.Packing.{packs, returns-of}
+use Rattle.packing.proofs.Packing.{packs, returns-of}
 use Rattle.ohg.proofs.Ranges.{discrete-ranged}
 use Rattle.ohg.proofs.ohg_discrete.Statement.{statement}
 use Rattle.ohg.proofs.ohg_discrete.Tie as tie

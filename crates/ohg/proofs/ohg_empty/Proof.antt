@@ -3,7 +3,7 @@
 use lib.ListN.{length}
 use denote.Ref.{now}
 use borrow.Author.Needs.{needs}
-use Rattle.ohg.proofs.Packing.{packs, returns-of}
+use Rattle.packing.proofs.Packing.{packs, returns-of}
 use Rattle.ohg.proofs.Ranges.{empty-ranged}
 use Rattle.ohg.proofs.ohg_empty.Statement.{statement}
 use Rattle.ohg.proofs.ohg_empty.Tie as tie

@@ -6,7 +6,7 @@ use denote.Ref.{now}
 use borrow.Author.Needs.{needs}
 use Rattle.le.proofs.Numbers.{below-each}
 use Rattle.choice.specs.Calls.{noLoopCall}
-use Rattle.ohg.proofs.Packing.{packs, returned}
+use Rattle.packing.proofs.Packing.{packs, returned}
 use Rattle.ohg.proofs.Ranges.{no-loop-ranged}
 use Rattle.ohg.proofs.ohg_no_loop.Statement.{statement}
 use Rattle.ohg.proofs.ohg_no_loop.Tie as tie

@@ -4,7 +4,7 @@ use lib.ListN.{length}
 use denote.Ref.{now}
 use borrow.Author.Needs.{needs}
 use Rattle.graph.specs.Calls.{onceFedCall}
-use Rattle.ohg.proofs.Packing.{packs, returned}
+use Rattle.packing.proofs.Packing.{packs, returned}
 use Rattle.ohg.proofs.Ranges.{once-fed-ranged}
 use Rattle.ohg.proofs.ohg_once_fed.Statement.{statement}
 use Rattle.ohg.proofs.ohg_once_fed.Tie as tie

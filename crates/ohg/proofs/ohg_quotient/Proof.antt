@@ -5,7 +5,7 @@ use lib.ListN.{length}
 use denote.Ref.{now}
 use borrow.Author.Needs.{needs}
 use Rattle.le.proofs.Numbers.{below-each}
-use Rattle.ohg.proofs.Packing.{packs, returns-map-of}
+use Rattle.packing.proofs.Packing.{packs, returns-map-of}
 use Rattle.ohg.proofs.Ranges.{quotient-ranged}
 use Rattle.ohg.proofs.ohg_quotient.Statement.{statement}
 use Rattle.ohg.proofs.ohg_quotient.Tie as tie

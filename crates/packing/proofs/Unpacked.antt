@@ -4,8 +4,8 @@ use mathlib.Core.Path.{_≡_, refl}
 use Prim.Native.Nat.{ℕ}
 use native.Mathlib.Omega.{arith}
 use Rattle.graph.specs.Answer.{Answer, refused, answered, Result}
-use Rattle.ohg.specs.Packed.{packed, Ranged}
-use Rattle.ohg.specs.Unpacked.{codeIn, aIn, bIn, codeOf, aOf, bOf}
+use Rattle.packing.specs.Packed.{packed, Ranged}
+use Rattle.packing.specs.Unpacked.{codeIn, aIn, bIn, codeOf, aOf, bOf}
 
 -- the code: 0 of an answer, the number of a refusal
 pub code-of-packed : (x : Answer Result) {r : ℕ} → Ranged x → r ≡ packed x → codeIn r ≡ codeOf x

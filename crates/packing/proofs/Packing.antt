@@ -6,7 +6,7 @@ use Prim.Native.Nat.{ℕ}
 use Rattle.graph.specs.Answer.{Answer, refused, answered, Result}
 use Rattle.form.specs.Form.{outcome, Gives, GivesMap}
 use Rattle.form.specs.declared.Outcome.{Outcome}
-use Rattle.ohg.specs.Packed.{packed, Returns, ReturnsMap, Ranged, packedOutcome, Packs}
+use Rattle.packing.specs.Packed.{packed, Returns, ReturnsMap, Ranged, packedOutcome, Packs}
 
 same-packed : (a : Answer Result) → packedOutcome (outcome a) ≡ packed a
 same-packed (refused r) = refl

@@ -1,12 +1,12 @@
--- `ohg::pack` meets its contract.
+-- `packing::pack` meets its contract.
 -- Assumes nothing.
 use mathlib.Core.Path.{ap, subst}
 use native.Mathlib.Omega.{arith}
 use borrow.Author.Needs.{needs}
 use Rattle.form.specs.declared.Outcome.the-variants.{Done}
-use Rattle.ohg.specs.Packed.{packedOutcome, Packs}
-use Rattle.ohg.proofs.pack.Statement.{statement}
-use Rattle.ohg.proofs.pack.Tie as tie
+use Rattle.packing.specs.Packed.{packedOutcome, Packs}
+use Rattle.packing.proofs.pack.Statement.{statement}
+use Rattle.packing.proofs.pack.Tie as tie
 
 -- the numbers of an answer that was written fit
 fits : (c : tie.After-known-told) → Packs (Done (c .before .x .given .0 .0) (c .before .x .given .0 .1 .0))

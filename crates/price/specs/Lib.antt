@@ -1,0 +1,4 @@
+pub mod Price
+pub mod Promises
+pub mod RefusedBy
+pub mod Parts
