@@ -1,3 +1,5 @@
 pub mod Faults
-pub mod Kinds
+pub mod Totals
 pub mod Counters
+pub mod Checking
+pub mod Bounds

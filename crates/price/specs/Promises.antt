@@ -56,8 +56,8 @@ pub record PricedOf (b : List ℕ) (s : StoredGraph) (p : Priced) : Type 0 where
   -- every edge is counted or a spider
   pub all-counted : sum (p .counts) + howMany isSpider (s .graph .edges) ≡ length (s .graph .edges)
 
--- the most that a graph of either version can hold: 16,384 of a kind, 32,768 buffers, 77,332,480 in all
+-- the most that a graph of either version can hold: 16,384 of a kind, 16,384 buffers, 73,072,640 in all
 pub record Small (p : Priced) : Type 0 where
   pub counts : Below 16385 (p .counts)
-  pub buffers : p .buffers ≤ 32768
-  pub total : p .total ≤ 77332480
+  pub buffers : p .buffers ≤ 16384
+  pub total : p .total ≤ 73072640

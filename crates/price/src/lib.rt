@@ -43,18 +43,66 @@ pub struct KindRow {
 
 // The kinds 1 to 12.
 const CATALOGUE: [KindRow; 12] = [
-    KindRow { sources: 0, targets: 1, price: 4200 }, // receive
-    KindRow { sources: 1, targets: 0, price: 4200 }, // transmit
-    KindRow { sources: 1, targets: 2, price: 1150 }, // parser
-    KindRow { sources: 2, targets: 1, price: 640 },  // hash
-    KindRow { sources: 1, targets: 1, price: 2300 }, // server table
-    KindRow { sources: 2, targets: 1, price: 390 },  // pick
-    KindRow { sources: 2, targets: 1, price: 870 },  // rewriter
-    KindRow { sources: 1, targets: 1, price: 510 },  // probe
-    KindRow { sources: 1, targets: 1, price: 120 },  // counter
-    KindRow { sources: 1, targets: 2, price: 95 },   // splitter
-    KindRow { sources: 2, targets: 1, price: 95 },   // joiner
-    KindRow { sources: 2, targets: 2, price: 3100 }, // flow store
+    KindRow {
+        sources: 0,
+        targets: 1,
+        price: 4200,
+    }, // receive
+    KindRow {
+        sources: 1,
+        targets: 0,
+        price: 4200,
+    }, // transmit
+    KindRow {
+        sources: 1,
+        targets: 2,
+        price: 1150,
+    }, // parser
+    KindRow {
+        sources: 2,
+        targets: 1,
+        price: 640,
+    }, // hash
+    KindRow {
+        sources: 1,
+        targets: 1,
+        price: 2300,
+    }, // server table
+    KindRow {
+        sources: 2,
+        targets: 1,
+        price: 390,
+    }, // pick
+    KindRow {
+        sources: 2,
+        targets: 1,
+        price: 870,
+    }, // rewriter
+    KindRow {
+        sources: 1,
+        targets: 1,
+        price: 510,
+    }, // probe
+    KindRow {
+        sources: 1,
+        targets: 1,
+        price: 120,
+    }, // counter
+    KindRow {
+        sources: 1,
+        targets: 2,
+        price: 95,
+    }, // splitter
+    KindRow {
+        sources: 2,
+        targets: 1,
+        price: 95,
+    }, // joiner
+    KindRow {
+        sources: 2,
+        targets: 2,
+        price: 3100,
+    }, // flow store
 ];
 
 // The row of a kind.
@@ -158,7 +206,7 @@ pub struct Bill {
 
 // These parts with so many loop buffers.
 fn with_buffers(p: Parts, buffers: usize) -> Bill
-    requires { ⌜ (buffers ≤ 32768) × (p .total ≤ 68812800) ⌝ }
+    requires { ⌜ (buffers ≤ 16384) × (p .total ≤ 68812800) ⌝ }
     ensures { λ r. ⌜ r ≡ billed p buffers ⌝ }
 {
     let counts = p.counts;
@@ -264,7 +312,10 @@ pub fn price(src: &[u8], out: &mut [u8], room: &mut [u8]) -> Outcome
     }
     let bill = priced.bill;
     put_bill(out, bill);
-    Outcome::Done { a: PRICE_BYTES, b: 0 }
+    Outcome::Done {
+        a: PRICE_BYTES,
+        b: 0,
+    }
 }
 
 // How many edges are of each kind of the catalogue, how many loop buffers the choice asks for, and the exact total.
