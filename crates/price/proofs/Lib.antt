@@ -3,3 +3,4 @@ pub mod Totals
 pub mod Counters
 pub mod Checking
 pub mod Bounds
+pub mod Walking
