@@ -4,3 +4,9 @@ pub mod Counters
 pub mod Checking
 pub mod Bounds
 pub mod Walking
+pub mod Pairless
+pub mod Putting
+pub mod Stored
+pub mod RefusedBy
+pub mod Calls
+pub mod Ranges

@@ -6,7 +6,7 @@ use mathlib.Core.List.{List, _++_, map}
 use mathlib.Core.Logic.{_⊎_}
 use Prim.Native.Nat.{ℕ, _+_, _-_, _*_, _≤_, _<_}
 use lib.Dec.{eqb}
-use lib.ListN.{getD, set, replicate}
+use lib.ListN.{length, getD, set, replicate}
 use Rattle.le.specs.Le.{Below, bytes, row}
 use Rattle.graph.specs.Graph.{Edge, spider}
 use Rattle.graph.specs.Answer.{Answer, refused, answered}
@@ -52,6 +52,11 @@ billed p buffers = record { counts = p .counts; buffers = buffers; total = p .to
 -- a priced parts list in code
 abbrev pub billOf : Priced → Bill
 billOf p = record { counts = p .counts; buffers = p .buffers; total = p .total }
+
+-- counters as a priced graph has them: one for each kind, and far from the end of its field
+pub record Countable (counts : List ℕ) : Type 0 where
+  pub twelve : length counts ≡ 12
+  pub few : Below 16385 counts
 
 -- its bytes
 abbrev pub bytesOf : Bill → List ℕ

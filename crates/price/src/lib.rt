@@ -13,7 +13,7 @@ ghost use Rattle.form.specs.Stored.{graphOf, Stored};
 ghost use Rattle.packing.specs.Packed.{Returns};
 ghost use Rattle.price.specs.Price as spec;
 ghost use Rattle.price.specs.Price.{partCheck, partsCheck, kindOf, bufferPrice, roomPrice, priceCall};
-ghost use Rattle.price.specs.Parts.{rowOf, partsOf, InCatalogue, Addable, added, billed, bytesOf, refusing, pricing};
+ghost use Rattle.price.specs.Parts.{rowOf, partsOf, InCatalogue, Addable, added, billed, Countable, bytesOf, refusing, pricing};
 use form::Outcome;
 use form::Reading;
 use form::Refusal;
@@ -269,7 +269,7 @@ pub fn price_drawing(src: &[u8], room: &mut [u8]) -> Pricing
 
 // The twelve counts at the front of out.
 fn put_counts(out: &mut [u8], counts: &[u32; 12])
-    requires { ⌜ 48 ≤ length (now out) ⌝ }
+    requires { ⌜ (48 ≤ length (now out)) × Countable (now counts) ⌝ }
     ensures { λ _. ⌜ now (out .exit) ≡ sets (now (out .entry)) 0 (row 4 (now (counts .entry))) ⌝ }
 {
     let r = Row { at: 0, width: 4 };
@@ -289,7 +289,7 @@ fn put8(d: &mut [u8], at: usize, v: u64)
 
 // A list as the answer's bytes.
 fn put_bill(out: &mut [u8], bill: Bill)
-    requires { ⌜ 60 ≤ length (now out) ⌝ }
+    requires { ⌜ (60 ≤ length (now out)) × Countable (bill .counts) ⌝ }
     ensures { λ _. ⌜ now (out .exit) ≡ sets (now (out .entry)) 0 (bytesOf bill) ⌝ }
 {
     let counts = bill.counts;

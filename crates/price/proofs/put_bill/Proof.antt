@@ -1,32 +1,29 @@
+-- `price::put_bill` meets its contract.
+-- Assumes nothing.
+use native.Mathlib.Omega.{arith}
 use borrow.Author.Needs.{needs}
+use denote.Ref.{now}
+use Rattle.price.proofs.Putting.{all-put}
 use Rattle.price.proofs.put_bill.Statement.{statement}
 use Rattle.price.proofs.put_bill.Tie as tie
-use Rattle.price.proofs.put_bill.Reads as reads
-use Rattle.price.proofs.put_bill.Lts as lts
-use Rattle.le.proofs.put4.Reads as put4-reads
-use Rattle.price.proofs.put8.Reads as put8-reads
-use Rattle.price.proofs.put_counts.Reads as put-counts-reads
 
--- src/lib.rt:296:5
 put-counts-requires : tie.Need-put-counts-requires
-put-counts-requires c κs = search needs
+put-counts-requires c κs = let s = c .before .before .before .before in (omega (arith, s .pre .0), s .pre .1)
 
--- src/lib.rt:297:5
-put4-requires : tie.Need-put4-requires
-put4-requires c κs = search needs
-
--- src/lib.rt:298:5
-put8-requires : tie.Need-put8-requires
-put8-requires c κs = search needs
-
--- src/lib.rt:291:1
-same-length : tie.Need-same-length
-same-length c = search needs
-
--- src/lib.rt:291:1
 returns : tie.Need-returns
-returns c = ?
+returns c =
+    let s = c .before .before .before .before .before .before .before .before .before .before .before .before .before .before .before in
+    let third = c .before .before .put8 in
+    let second = c .before .before .before .before .before .before .put4 in
+    let first = c .before .before .before .before .before .before .before .before .before .before .put-counts in
+    all-put (now (s .args .out)) (first .last .0) (second .last .0) (third .last .0) (s .args .bill .counts) (s .args .bill .buffers) (s .args .bill .total) (s .pre .1 .twelve) (first .ensures) (second .ensures) (third .ensures)
 
 pub put-bill-spec : {M : Type 1} → statement M
 put-bill-spec =
-    tie.close (tie.spec put-counts-requires put4-requires put8-requires same-length returns)
+    tie.close
+    (tie.spec
+    put-counts-requires
+    (λ c κs. search needs)
+    (λ c κs. search needs)
+    (λ c. search needs)
+    returns)
