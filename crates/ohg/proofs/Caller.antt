@@ -45,7 +45,8 @@ use Rattle.packing.specs.Packed.{packed, Returns, Ranged}
 use Rattle.packing.specs.Unpacked.{codeIn, aIn, bIn}
 use Rattle.packing.specs.Caller.{Draws}
 use Rattle.ohg.specs.Caller.{widthIn, listBytes, listed, ToldChoice, idsGiven, Keepable, ToldKeeping, ToldKeptCycle, ToldSpiderized, ToldNoLoop, ToldLoop}
-use Rattle.ohg.proofs.Ranges.{cycle-breaking-nodes-ranged, cycle-breaking-nodes-keeping-ranged, spiderize-nodes-ranged, no-loop-ranged, find-loop-ranged}
+use Rattle.ohg.proofs.Ranges.{cycle-breaking-nodes-keeping-ranged, spiderize-nodes-ranged, no-loop-ranged, find-loop-ranged}
+use Rattle.packing.proofs.Ranges.{cycle-breaking-nodes-ranged}
 use Rattle.packing.proofs.Unpacked.{code-of-packed, b-of-packed}
 use Rattle.packing.proofs.Caller.{answer-of, draws, front, kept}
 

@@ -13,20 +13,20 @@ use Rattle.graph.specs.Graph.{Graph, Format, Proper, WellFormed, largest}
 use Rattle.graph.specs.Checks.{monogamous}
 use Rattle.choice.specs.Drawing.{noLoop}
 use Rattle.le.specs.Le.{Below}
-use Rattle.choice.specs.Calls.{roomCycleBreakingNodes, cycleBreakingNodesCall, cycleBreakingNodesKeepingCall, cycleBreakingNodesScanningCall, noLoopCall, findLoopCall, reasonsCall}
+use Rattle.choice.specs.Calls.{roomCycleBreakingNodes, cycleBreakingNodesKeepingCall, cycleBreakingNodesScanningCall, noLoopCall, findLoopCall, reasonsCall}
 use Rattle.choice.proofs.Graphs.{chosen-and-free-are-all}
 use Rattle.choice.proofs.ReasonsStored.{reasons-answer}
-use Rattle.choice.proofs.Stored.{cycle-breaking-nodes-answer, no-loop-answer}
+use Rattle.choice.proofs.Stored.{no-loop-answer}
 use Rattle.choice.proofs.KeptStored.{keeping-answer}
 use Rattle.choice.proofs.Shown.{steps-bounds}
 use Rattle.choice.proofs.ShownStored.{find-loop-answer}
 use Rattle.choice.proofs.Sweeps.{scanned-kept}
 use Rattle.graph.proofs.Answers.{FormOf, Keeps, on-graph-answer, on-nothing-answer, read-answer, delete-nodes-answer, quotient-call-answer, once-fed-answer, worked, rewrite-kept, empty-kept, discrete-kept, identity-kept, singleton-kept, new-node-kept, new-edge-kept, new-operation-kept, unify-kept, add-source-kept, add-target-kept, delete-edges-kept, spiderize-kept, spiderize-all-kept}
 use Rattle.graph.specs.RefusedBy.{readCallRefusals, rewriteRefusals, emptyRefusals, discreteRefusals, identityRefusals, singletonRefusals, newNodeRefusals, newEdgeRefusals, newOperationRefusals, unifyRefusals, addEdgeSourceRefusals, addEdgeTargetRefusals, deleteEdgesRefusals, deleteNodesRefusals, quotientRefusals, spiderizeRefusals, spiderizeNodesRefusals, onceFedRefusals}
-use Rattle.choice.specs.RefusedBy.{cycleBreakingNodesRefusals, cycleBreakingNodesKeepingRefusals, cycleBreakingNodesScanningRefusals, noLoopRefusals, findLoopRefusals, reasonsRefusals}
+use Rattle.choice.specs.RefusedBy.{cycleBreakingNodesKeepingRefusals, cycleBreakingNodesScanningRefusals, noLoopRefusals, findLoopRefusals, reasonsRefusals}
 use Rattle.graph.proofs.Refusals.{Listed, listed, refused-in}
 use Rattle.graph.proofs.RefusedBy.{read-call-by, rewrite-by, empty-by, discrete-by, identity-by, singleton-by, new-node-by, new-edge-by, new-operation-by, unify-by, add-edge-source-by, add-edge-target-by, delete-edges-by, delete-nodes-by, quotient-by, spiderize-by, spiderize-nodes-by, once-fed-by}
-use Rattle.choice.proofs.RefusedBy.{cycle-breaking-nodes-by, cycle-breaking-nodes-keeping-by, cycle-breaking-nodes-scanning-by, no-loop-by, find-loop-by, reasons-by}
+use Rattle.choice.proofs.RefusedBy.{cycle-breaking-nodes-keeping-by, cycle-breaking-nodes-scanning-by, no-loop-by, find-loop-by, reasons-by}
 use Rattle.graph.proofs.Steps.{same-answer, came}
 use Rattle.graph.proofs.Versions.{read-sound, longest}
 use Rattle.packing.specs.Packed.{Ranged}
@@ -171,18 +171,6 @@ module _ (b : List ℕ) (t : Below 256 b) (room : ℕ) where
         let sound = read-sound b s t (h .2) in
         let within = sound .version .grows (s .graph) (sound .formed) .counts .nodes in
         (omega (arith, h .7, form-short (h .5)), omega (arith, h .8, within));
-  }
-
-  pub cycle-breaking-nodes-ranged : (workRoom : ℕ) → Ranged (cycleBreakingNodesCall b room workRoom)
-  cycle-breaking-nodes-ranged workRoom = record {
-    no = λ r e. refused-in (listed cycleBreakingNodesRefusals refl (cycle-breaking-nodes-by b room workRoom)) e;
-    numbers = λ m e.
-        let h = cycle-breaking-nodes-answer b t room workRoom m e in
-        let s = h .0 in
-        let sound = read-sound b s t (h .1 .stored) in
-        let within = sound .version .grows (s .graph) (sound .formed) .counts in
-        let all = chosen-and-free-are-all (s .graph) (sound .formed .proper) in
-        (omega (arith, h .1 .count, all, within .nodes, within .edges), omega (arith, h .1 .free, all, within .nodes, within .edges));
   }
 
   pub cycle-breaking-nodes-keeping-ranged : (kept : List ℕ) (workRoom : ℕ) → Ranged (cycleBreakingNodesKeepingCall b kept room workRoom)

@@ -1,3 +1,4 @@
 pub mod Packing
 pub mod Unpacked
 pub mod Caller
+pub mod Ranges

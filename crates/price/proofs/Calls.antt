@@ -62,7 +62,7 @@ module _ (a : Answer Priced) (r : Pricing) (is : r ≡ pricing a) where
 -- ---- the call
 
 -- its answer after pricing
-abbrev written : ℕ → Priced → Answer Result
+abbrev pub written : ℕ → Priced → Answer Result
 written room p = fit room (priceBytes p) >>= λ list. answered (writing list 0)
 
 in-room : {A B : Type 0} (needed lent : ℕ) (a : Answer A) (next : A → Answer B) → inWorkRoom needed lent (a >>= next) ≡ (inWorkRoom needed lent a >>= next)
@@ -74,7 +74,7 @@ in-room needed lent a next = go (leb needed lent)
     go false = refl
 
 module _ (b : List ℕ) (room lent : ℕ) where
-  whole : priceCall b room lent ≡ (inWorkRoom roomPrice lent (price b) >>= written room)
+  pub whole : priceCall b room lent ≡ (inWorkRoom roomPrice lent (price b) >>= written room)
   unfolding priceAnswer
   whole = in-room roomPrice lent (price b) (written room)
 

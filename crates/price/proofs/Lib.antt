@@ -10,3 +10,5 @@ pub mod Stored
 pub mod RefusedBy
 pub mod Calls
 pub mod Ranges
+pub mod Caller
+pub mod ByHand

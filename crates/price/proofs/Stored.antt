@@ -20,7 +20,7 @@ use Rattle.price.proofs.Bounds.{graph-small}
 use Rattle.price.proofs.Faults.{checked}
 use Rattle.price.proofs.Totals.{total-is-cost, parts-and-spiders}
 
-unpaired-same : (g h : Graph) → unpaired g ≡ answered h → (length (g .pairs) ≡ zero) × (g ≡ h)
+pub unpaired-same : (g h : Graph) → unpaired g ≡ answered h → (length (g .pairs) ≡ zero) × (g ≡ h)
 unfolding unpaired
 unpaired-same g h e =
     let p = passed (eqb (length (g .pairs)) zero) _ (answered g) e in (eqb-true _ _ (p .0), same-answer (p .1))

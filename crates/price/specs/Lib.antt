@@ -2,3 +2,5 @@ pub mod Price
 pub mod Promises
 pub mod RefusedBy
 pub mod Parts
+pub mod Caller
+pub mod ByHand

@@ -5,8 +5,8 @@ use lib.ListN.{length}
 use denote.Ref.{now}
 use borrow.Author.Needs.{needs}
 use Rattle.le.proofs.Numbers.{below-each}
+use Rattle.packing.proofs.Ranges.{cycle-breaking-nodes-ranged}
 use Rattle.packing.proofs.Packing.{packs, returns-of}
-use Rattle.ohg.proofs.Ranges.{cycle-breaking-nodes-ranged}
 use Rattle.ohg.proofs.ohg_cycle_breaking_nodes.Statement.{statement}
 use Rattle.ohg.proofs.ohg_cycle_breaking_nodes.Tie as tie
 
