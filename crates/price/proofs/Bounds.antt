@@ -8,8 +8,8 @@ use lib.Dec.{eqb}
 use lib.ListN.{length, getD}
 use Rattle.le.specs.Le.{Below}
 use Rattle.graph.specs.Graph.{Edge, Graph, largest, WellFormed}
-use Rattle.choice.specs.Choice.{Above, Ascends}
 use Rattle.choice.specs.Drawing.{chosen}
+use Rattle.choice.proofs.Ascending.{ascending-few}
 use Rattle.choice.proofs.Degrees.{howMany-length}
 use Rattle.choice.proofs.Graphs.{chosen-breaks}
 use Rattle.price.specs.Price.{Kind, kind, catalogue, kinds, kindOf, isSpider, ofKind, edgePrice, edgesPrice, pricedGraph}
@@ -48,19 +48,10 @@ pub counts-below : (es : List Edge) (m : ℕ) → length es < m → (ks : List �
 counts-below es m l [] = tt
 counts-below es m l (k ∷ ks) = (omega (arith, of-kind-few es k), counts-below es m l ks)
 
--- an ascending list of numbers below n has at most n
-above-few : (x n : ℕ) (l : List ℕ) → Above x l → Below n l → x < n → suc x + length l ≤ n
-above-few x n [] a b h = omega arith
-above-few x n (y ∷ l) a b h = omega (arith, above-few y n l (a .1) (b .1) (b .0), a .0)
-
-ascends-few : (n : ℕ) (l : List ℕ) → Ascends l → Below n l → length l ≤ n
-ascends-few n [] a b = zero-le
-ascends-few n (x ∷ l) a b = omega (arith, above-few x n l a (b .1) (b .0))
-
 pub buffers-few : (g : Graph) → WellFormed largest g → length (chosen g .ids) ≤ 16384
 buffers-few g w =
     let c = chosen-breaks g (w .proper) in
-    omega (arith, ascends-few (length (g .labels)) (chosen g .ids) (c .ascends) (c .nodes), w .counts .nodes)
+    omega (arith, ascending-few (length (g .labels)) (chosen g .ids) (c .ascends) (c .nodes), w .counts .nodes)
 
 pub graph-small : (g : Graph) → WellFormed largest g → Small (pricedGraph g)
 unfolding pricedGraph

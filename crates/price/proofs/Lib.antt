@@ -4,7 +4,6 @@ pub mod Counters
 pub mod Checking
 pub mod Bounds
 pub mod Walking
-pub mod Pairless
 pub mod Putting
 pub mod Stored
 pub mod RefusedBy

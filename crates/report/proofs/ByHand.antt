@@ -15,7 +15,7 @@ use Rattle.graph.specs.Form.{encode}
 use Rattle.graph.specs.Read.{readVersion, readCounts, readEdge, readLists, readBody, readIn, readAs}
 use Rattle.graph.specs.Versions.{fittingSizes, fitting}
 use Rattle.report.specs.Report.{reportText}
-use Rattle.report.specs.Text.{ascii, decimal}
+use Rattle.text.specs.Text.{ascii, decimal}
 
 -- the 59 bytes that document 01 shows
 abbrev pub p7-form : List ℕ

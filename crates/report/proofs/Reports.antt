@@ -1,7 +1,7 @@
 -- What the report says, by what reading and the choice answered. The list has room for every choice, so the choice is refused for a pending pair alone.
 -- Assumes nothing.
 use mathlib.Core.Bool.{Bool, true, false}
-use mathlib.Core.List.{List, [], _∷_}
+use mathlib.Core.List.{List, []}
 use mathlib.Core.Path.{_≡_, refl, sym, ap, subst, _∙_}
 use Prim.Native.Nat.{ℕ, _+_, _*_, _^_, _≤_, _<_}
 use native.Mathlib.Nat.{zero-mul}
@@ -12,7 +12,6 @@ use mir.Val.{Fits}
 use lib.ListN.{length, getD, drop, length-append}
 use borrow.Author.Tests.{le-leb, eqb-true, eqb-false}
 use Rattle.choice.specs.Calls.{listing, cycleBroken, cycleBreakingNodesCall, roomCycleBreakingNodes}
-use Rattle.choice.specs.Choice.{Above, Ascends}
 use Rattle.choice.specs.Drawing.{chosen}
 use Rattle.form.specs.Form.{Gives, outcome, refusalOf, meantBy, meant, reading}
 use Rattle.form.specs.Stored.{graphOf, formatOf, Stored}
@@ -32,6 +31,7 @@ use Rattle.graph.specs.Read.{readAs}
 use Rattle.graph.specs.Versions.{StoredGraph}
 use Rattle.le.specs.Le.{Below, row}
 use Rattle.le.specs.Rows.{rowAt, Holds, span}
+use Rattle.choice.proofs.Ascending.{ascending-few}
 use Rattle.choice.proofs.Graphs.{chosen-breaks}
 use Rattle.graph.proofs.Verdicts.{in-room, unpaired-0, unpaired-8}
 use Rattle.form.proofs.Stored.{stored}
@@ -40,17 +40,8 @@ use Rattle.graph.proofs.Versions.{first-alone}
 use Rattle.le.proofs.Numbers.{below-each, below-widen, length-row, numbers-row}
 use Rattle.read.specs.Steps.{measured}
 use Rattle.read.proofs.Whole.{graph-refused, graph-read}
-use Rattle.report.specs.Report.{refusedLine, drawingText, told, reportText, listRoom}
-
--- numbers that ascend, all above x and below n, are fewer than n - x
-above-few : (n x : ℕ) (xs : List ℕ) → x < n → Above x xs → Below n xs → x + length xs < n
-above-few n x [] l a h = omega arith
-above-few n x (y ∷ ys) l a h = omega (arith, above-few n y ys (h .0) (a .1) (h .1), a .0)
-
--- so an ascending list of numbers below n has at most n of them
-ascending-few : (n : ℕ) (xs : List ℕ) → Ascends xs → Below n xs → length xs ≤ n
-ascending-few n [] a h = omega arith
-ascending-few n (x ∷ xs) a h = omega (arith, above-few n x xs (h .0) a (h .1))
+use Rattle.text.specs.Text.{refusedLine}
+use Rattle.report.specs.Report.{drawingText, told, reportText, listRoom}
 
 -- the bytes were read, by one that knows version 1 alone, as a graph of these sizes
 pub record Alone (b : List ℕ) (z : Sizes) : Type 0 where

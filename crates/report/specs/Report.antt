@@ -2,7 +2,6 @@
 -- Assumes nothing.
 use mathlib.Core.List.{List, _++_}
 use Prim.Native.Nat.{ℕ, _*_}
-use Prim.Native.String.{String}
 use lib.ListN.{length}
 use Rattle.graph.specs.Lists.{joined}
 use Rattle.graph.specs.Graph.{Graph, Format, form1, ports}
@@ -11,11 +10,7 @@ use Rattle.graph.specs.Answer.{Answer, refused, answered, _>>=_}
 use Rattle.graph.specs.Read.{readAs}
 use Rattle.graph.specs.Calls.{unpaired}
 use Rattle.choice.specs.Drawing.{chosen}
-use Rattle.report.specs.Text.{ascii, decimal}
-
--- a word and a number
-abbrev pub field : String → ℕ → List ℕ
-field word n = ascii word ++ decimal n
+use Rattle.text.specs.Text.{ascii, decimal, field, refusedLine}
 
 -- "mark and version"
 abbrev pub markLine : Format → List ℕ
@@ -33,10 +28,6 @@ countsLine cut free = field "cut " cut ++ field " free " free ++ ascii "\n"
 -- "then one cut id a line"
 abbrev pub idLine : ℕ → List ℕ
 idLine id = decimal id ++ ascii "\n"
-
--- "On a refusal it prints one line, `refused` and the number."
-abbrev pub refusedLine : ℕ → List ℕ
-refusedLine n = field "refused " n ++ ascii "\n"
 
 -- a drawing of version 1, of these sizes and with these cut ids
 abbrev pub drawingText : ℕ → ℕ → ℕ → ℕ → List ℕ → List ℕ

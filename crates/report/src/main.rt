@@ -1,6 +1,6 @@
 // The report on a drawing. Reads a stored form of version 1 from standard input and prints its mark and version, its sizes, how many nodes are cut and how many vertices
 // were removed freely, and then the cut ids, one a line. On a refusal it prints one line, `refused` and the number.
-mod text;
+mod lines;
 
 ghost use mathlib.Core.Path.{_≡_};
 ghost use Prim.Native.Nat.{_≤_};
@@ -8,13 +8,13 @@ ghost use lib.ListN.{length};
 ghost use Rattle.choice.specs.Calls.{roomCycleBreakingNodes};
 ghost use Rattle.io.specs.Counts.{Counts};
 ghost use Rattle.report.specs.Report.{reportText, reportRoom, listRoom};
-ghost use Rattle.report.specs.Text.{Printed};
+ghost use Rattle.text.specs.Text.{Printed};
 use form::Outcome;
 use form::Reading;
 use libc::STDERR_FILENO;
 use libc::STDIN_FILENO;
 use libc::STDOUT_FILENO;
-use text::put_drawing;
+use lines::put_drawing;
 use text::put_refusal;
 
 // The work room of the choice, cleared. The `ensures` gives only the length, which lending the array as a slice needs.

@@ -10,8 +10,7 @@ use Rattle.form.specs.Form.{meantBy, refusalRead}
 use Rattle.form.specs.declared.Refusal.{Refusal}
 use Rattle.graph.specs.Graph.{Format, Usable}
 use Rattle.graph.proofs.Laws.{form1-usable}
-use Rattle.report.specs.Report.{refusedLine}
-use Rattle.report.specs.Text.{Printed}
+use Rattle.text.specs.Text.{Printed, refusedLine}
 use Rattle.report.proofs.Reports.{Alone, unread-alone, read-alone, Drawing, text-unread, text-refused, text-done}
 use Rattle.report.proofs.report.Statement.{statement}
 use Rattle.report.proofs.report.Tie as tie

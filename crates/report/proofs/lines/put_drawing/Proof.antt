@@ -1,4 +1,4 @@
--- `report::text::put_drawing` meets its contract.
+-- `report::lines::put_drawing` meets its contract.
 -- Assumes nothing.
 use mathlib.Core.Path.{sym}
 use Prim.Native.Nat.{_≤_}
@@ -9,8 +9,8 @@ use Rattle.io.proofs.Counting.{front}
 use Rattle.le.specs.Rows.{rowAt, span}
 use Rattle.le.proofs.Rows.{length-span}
 use Rattle.report.proofs.Texts.{printed-lines}
-use Rattle.report.proofs.text.put_drawing.Statement.{statement}
-use Rattle.report.proofs.text.put_drawing.Tie as tie
+use Rattle.report.proofs.lines.put_drawing.Statement.{statement}
+use Rattle.report.proofs.lines.put_drawing.Tie as tie
 
 returns : tie.Need-returns
 returns c =

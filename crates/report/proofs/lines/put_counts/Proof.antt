@@ -1,12 +1,11 @@
--- `report::text::put_counts` meets its contract.
+-- `report::lines::put_counts` meets its contract.
 -- Assumes nothing.
 use mathlib.Core.List.{_++_}
 use borrow.Author.Needs.{needs}
-use Rattle.report.specs.Report.{field}
-use Rattle.report.specs.Text.{ascii}
-use Rattle.report.proofs.Texts.{printed-then}
-use Rattle.report.proofs.text.put_counts.Statement.{statement}
-use Rattle.report.proofs.text.put_counts.Tie as tie
+use Rattle.text.specs.Text.{ascii, field}
+use Rattle.text.proofs.Texts.{printed-then}
+use Rattle.report.proofs.lines.put_counts.Statement.{statement}
+use Rattle.report.proofs.lines.put_counts.Tie as tie
 
 returns : tie.Need-returns
 returns c =

@@ -1,56 +1,18 @@
 // The lines of the report, put into lent bytes one after the other. Each function answers the place after what it has put, and bounds it so that the next one
-// has room: a number takes at most 20 bytes, and a line of three numbers at most 100.
-ghost use mathlib.Core.List.{_++_};
+// has room: a line of three numbers takes at most 100 bytes.
 ghost use Prim.Native.Nat.{_+_, _*_, _≤_};
 ghost use lib.ListN.{length};
 ghost use Rattle.graph.specs.Lists.{joined};
 ghost use Rattle.graph.specs.Graph.{form1};
 ghost use Rattle.io.specs.Counts.{Counts};
 ghost use Rattle.le.specs.Rows.{rowAt, Holds, span};
-ghost use Rattle.report.specs.Text.{Printed, decimal};
-ghost use Rattle.report.specs.Report.{sizesLine, countsLine, idLine, refusedLine, drawingText, reportRoom};
-use form::Refusal;
+ghost use Rattle.text.specs.Text.{Printed};
+ghost use Rattle.report.specs.Report.{sizesLine, countsLine, idLine, drawingText, reportRoom};
 use form::Sizes;
 use le::Row;
-
-fn put_text(out: &mut [u8], at: usize, text: &[u8]) -> usize
-    requires { ⌜ at + length (now text) ≤ length (now out) ⌝ }
-    ensures { λ r. ⌜ Printed (now (out .entry)) at (now (text .entry)) (now (out .exit)) r ⌝ }
-{
-    le::copy(out, at, text, 0, text.len());
-    at + text.len()
-}
-
-// A number in decimal.
-fn put_number(out: &mut [u8], at: usize, n: usize) -> usize
-    requires { ⌜ at + 20 ≤ length (now out) ⌝ }
-    ensures { λ r. ⌜ Printed (now (out .entry)) at (decimal n) (now (out .exit)) r ⌝ }
-    ensures { λ r. ⌜ r ≤ at + 20 ⌝ }
-{
-    let mut digits = [0u8; 20];
-    let k = io::decimal(n as u64, &mut digits);
-    put_text(out, at, &digits[..k])
-}
-
-// A word and a number.
-fn put_field(out: &mut [u8], at: usize, word: &[u8], n: usize) -> usize
-    requires { ⌜ at + length (now word) + 20 ≤ length (now out) ⌝ }
-    ensures { λ r. ⌜ Printed (now (out .entry)) at (now (word .entry) ++ decimal n) (now (out .exit)) r ⌝ }
-    ensures { λ r. ⌜ r ≤ at + length (now (word .entry)) + 20 ⌝ }
-{
-    let next = put_text(out, at, word);
-    put_number(out, next, n)
-}
-
-pub fn put_refusal(out: &mut [u8], x: Refusal) -> usize
-    requires { ⌜ reportRoom ≤ length (now out) ⌝ }
-    ensures { λ r. ⌜ Printed (now (out .entry)) 0 (refusedLine (x .no)) (now (out .exit)) r ⌝ }
-    ensures { λ r. ⌜ Counts r (now (out .exit)) ⌝ }
-{
-    let no = x.no;
-    let next = put_field(out, 0, b"refused ", no as usize);
-    put_text(out, next, b"\n")
-}
+use text::put_field;
+use text::put_number;
+use text::put_text;
 
 fn put_sizes(out: &mut [u8], at: usize, z: Sizes) -> usize
     requires { ⌜ at + 100 ≤ length (now out) ⌝ }

@@ -1,10 +1,10 @@
--- `report::text::put_text` meets its contract.
+-- `text::put_text` meets its contract.
 -- Assumes nothing.
 use mathlib.Core.Path.{refl, ap, _∙_}
 use lib.Seq.{sets, take-length}
 use borrow.Author.Needs.{needs}
-use Rattle.report.proofs.text.put_text.Statement.{statement}
-use Rattle.report.proofs.text.put_text.Tie as tie
+use Rattle.text.proofs.put_text.Statement.{statement}
+use Rattle.text.proofs.put_text.Tie as tie
 
 returns : tie.Need-returns
 returns c =

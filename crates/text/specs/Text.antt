@@ -24,6 +24,14 @@ numeral (suc most) n = cond (ltb n 10) ((48 + n) ∷ []) (numeral most (n / 10) 
 unfoldable pub decimal : ℕ → List ℕ
 decimal = numeral 20
 
+-- a word and a number
+abbrev pub field : String → ℕ → List ℕ
+field word n = ascii word ++ decimal n
+
+-- 01: "On a refusal it prints one line, `refused` and the number."
+abbrev pub refusedLine : ℕ → List ℕ
+refusedLine n = field "refused " n ++ ascii "\n"
+
 -- these bytes were put at a place, and next is the place after them
 pub record Printed (old : List ℕ) (place : ℕ) (bytes new : List ℕ) (next : ℕ) : Type 0 where
   pub holds : new ≡ sets old place bytes

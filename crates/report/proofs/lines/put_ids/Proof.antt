@@ -1,4 +1,4 @@
--- `report::text::put_ids` meets its contract. The loop's invariant: the lines of the first i ids are put.
+-- `report::lines::put_ids` meets its contract. The loop's invariant: the lines of the first i ids are put.
 -- Assumes nothing.
 use mathlib.Core.Path.{_≡_, refl, subst, _∙_}
 use Prim.Native.Nat.{ℕ, _+_, _*_, _-_, _≤_}
@@ -10,10 +10,10 @@ use Rattle.graph.specs.Lists.{joined}
 use Rattle.le.specs.Rows.{span}
 use Rattle.le.proofs.Rows.{holds-less}
 use Rattle.report.specs.Report.{idLine}
-use Rattle.report.specs.Text.{Printed}
+use Rattle.text.specs.Text.{Printed}
 use Rattle.report.proofs.Texts.{printed-id, printed-none}
-use Rattle.report.proofs.text.put_ids.Statement.{statement}
-use Rattle.report.proofs.text.put_ids.Tie as tie
+use Rattle.report.proofs.lines.put_ids.Statement.{statement}
+use Rattle.report.proofs.lines.put_ids.Tie as tie
 
 abbrev Inv-loop : tie.InvT-loop
 Inv-loop out₀ at list row ids next₀ i₀ out next i =

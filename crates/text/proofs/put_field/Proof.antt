@@ -1,10 +1,10 @@
--- `report::text::put_field` meets its contract.
+-- `text::put_field` meets its contract.
 -- Assumes nothing.
 use borrow.Author.Needs.{needs}
-use Rattle.report.specs.Text.{decimal}
-use Rattle.report.proofs.Texts.{printed-then}
-use Rattle.report.proofs.text.put_field.Statement.{statement}
-use Rattle.report.proofs.text.put_field.Tie as tie
+use Rattle.text.specs.Text.{decimal}
+use Rattle.text.proofs.Texts.{printed-then}
+use Rattle.text.proofs.put_field.Statement.{statement}
+use Rattle.text.proofs.put_field.Tie as tie
 
 returns : tie.Need-returns
 returns c =

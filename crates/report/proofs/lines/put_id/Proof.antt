@@ -1,10 +1,10 @@
--- `report::text::put_id` meets its contract.
+-- `report::lines::put_id` meets its contract.
 -- Assumes nothing.
 use borrow.Author.Needs.{needs}
-use Rattle.report.specs.Text.{ascii, decimal}
-use Rattle.report.proofs.Texts.{printed-then}
-use Rattle.report.proofs.text.put_id.Statement.{statement}
-use Rattle.report.proofs.text.put_id.Tie as tie
+use Rattle.text.specs.Text.{ascii, decimal}
+use Rattle.text.proofs.Texts.{printed-then}
+use Rattle.report.proofs.lines.put_id.Statement.{statement}
+use Rattle.report.proofs.lines.put_id.Tie as tie
 
 returns : tie.Need-returns
 returns c =

@@ -1,15 +1,14 @@
--- `report::text::put_refusal` meets its contract.
+-- `text::put_refusal` meets its contract.
 -- Assumes nothing.
 use Prim.Native.Nat.{_≤_}
 use native.Mathlib.Omega.{arith}
 use lib.ListN.{length}
 use borrow.Author.Needs.{needs}
 use Rattle.io.proofs.Counting.{front}
-use Rattle.report.specs.Report.{field}
-use Rattle.report.specs.Text.{ascii}
-use Rattle.report.proofs.Texts.{printed-then}
-use Rattle.report.proofs.text.put_refusal.Statement.{statement}
-use Rattle.report.proofs.text.put_refusal.Tie as tie
+use Rattle.text.specs.Text.{ascii, field}
+use Rattle.text.proofs.Texts.{printed-then}
+use Rattle.text.proofs.put_refusal.Statement.{statement}
+use Rattle.text.proofs.put_refusal.Tie as tie
 
 returns : tie.Need-returns
 returns c =

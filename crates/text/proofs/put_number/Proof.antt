@@ -1,4 +1,4 @@
--- `report::text::put_number` meets its contract: the fewest digits that hold a number of 64 bits are at most 20, and they are its decimal.
+-- `text::put_number` meets its contract: the fewest digits that hold a number of 64 bits are at most 20, and they are its decimal.
 -- Assumes nothing.
 use mathlib.Core.Path.{_≡_, sym, subst, _∙_}
 use mathlib.Core.List.{List}
@@ -6,10 +6,10 @@ use Prim.Native.Nat.{ℕ, _≤_}
 use native.Mathlib.Omega.{arith}
 use lib.ListN.{take}
 use borrow.Author.Needs.{needs}
-use Rattle.report.specs.Text.{Printed, decimal}
-use Rattle.report.proofs.Texts.{decimal-digits, fewest-few}
-use Rattle.report.proofs.text.put_number.Statement.{statement}
-use Rattle.report.proofs.text.put_number.Tie as tie
+use Rattle.text.specs.Text.{Printed, decimal}
+use Rattle.text.proofs.Texts.{decimal-digits, fewest-few}
+use Rattle.text.proofs.put_number.Statement.{statement}
+use Rattle.text.proofs.put_number.Tie as tie
 
 put-text-requires : tie.Need-put-text-requires
 put-text-requires c κs =
