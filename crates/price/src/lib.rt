@@ -32,7 +32,7 @@ pub const PRICE_BYTES: usize = 60;
 const SPIDER: usize = 4294967295;
 
 // What a loop buffer costs.
-const BUFFER_PRICE: u64 = 260;
+pub const BUFFER_PRICE: u64 = 260;
 
 // A kind of part: how many sources and targets it has, and its price in hundredths of a cent.
 pub struct KindRow {
@@ -106,7 +106,7 @@ const CATALOGUE: [KindRow; 12] = [
 ];
 
 // The row of a kind.
-fn kind_row(label: usize) -> KindRow
+pub fn kind_row(label: usize) -> KindRow
     requires { ⌜ InCatalogue label ⌝ }
     ensures { λ r. ⌜ r ≡ rowOf (kindOf label) ⌝ }
 {

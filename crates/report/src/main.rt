@@ -41,12 +41,6 @@ fn report(src: &[u8], list: &mut [u8], room: &mut [u8], out: &mut [u8]) -> usize
     }
 }
 
-// Whether standard input has ended, so that a read before this one stopped for no other reason.
-fn is_ended() -> bool {
-    let mut spare = [0u8; 1];
-    libc::read(STDIN_FILENO, &mut spare) == 0
-}
-
 // Reads, reports and writes. No contract can say which bytes are read or written, so all that is to be decided is decided in `report`.
 //
 // The buffer is longer than the longest form of version 1, of 49,167 bytes. Where the input fills it, the rest is not read, and the report is the one on the whole input
@@ -58,7 +52,7 @@ fn main() {
     let mut form = io::large_buffer();
     let n = io::read_full(STDIN_FILENO, &mut form);
     if n < form.len() {
-        if !is_ended() {
+        if !text::is_ended() {
             io::write_all(STDERR_FILENO, b"report: standard input can't be read\n");
             return;
         }

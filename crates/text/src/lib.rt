@@ -1,11 +1,12 @@
-// Texts put into lent bytes one after the other. Each function answers the place after what it has put, and bounds it so that the next one has room: a number takes
-// at most 20 bytes.
+// What the programs share: texts put into lent bytes one after the other, and whether the input has ended. Each function that puts something answers the place after it,
+// and bounds it so that the next one has room: a number takes at most 20 bytes.
 ghost use mathlib.Core.List.{_++_};
 ghost use Prim.Native.Nat.{_+_, _≤_};
 ghost use lib.ListN.{length};
 ghost use Rattle.io.specs.Counts.{Counts};
 ghost use Rattle.text.specs.Text.{Printed, decimal, refusedLine};
 use form::Refusal;
+use libc::STDIN_FILENO;
 
 // Bytes as they are.
 pub fn put_text(out: &mut [u8], at: usize, text: &[u8]) -> usize
@@ -46,4 +47,10 @@ pub fn put_refusal(out: &mut [u8], x: Refusal) -> usize
     let no = x.no;
     let next = put_field(out, 0, b"refused ", no as usize);
     put_text(out, next, b"\n")
+}
+
+// Whether standard input has ended, so that a read before this one stopped for no other reason.
+pub fn is_ended() -> bool {
+    let mut spare = [0u8; 1];
+    libc::read(STDIN_FILENO, &mut spare) == 0
 }
