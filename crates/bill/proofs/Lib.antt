@@ -1,2 +1,3 @@
 pub mod Prefix
-pub mod Lines
+pub mod Texts
+pub mod Names
