@@ -47,7 +47,8 @@ fn put_name(out: &mut [u8], at: usize, label: usize) -> usize
     ensures { λ r. ⌜ Printed (now (out .entry)) at (ascii (kindOf label .name)) (now (out .exit)) r ⌝ }
     ensures { λ r. ⌜ r ≤ at + 12 ⌝ }
 {
-    let names = b"receive     transmit    parser      hash        server tablepick        rewriter    probe       counter     splitter    joiner      flow store  ";
+    let names =
+        b"receive     transmit    parser      hash        server tablepick        rewriter    probe       counter     splitter    joiner      flow store  ";
     let n = NAME_LENGTHS[label - 1];
     le::copy(out, at, names, 12 * (label - 1), n);
     at + n
@@ -61,7 +62,12 @@ fn put_kind(out: &mut [u8], at: usize, counts: &[u32; 12], label: usize) -> usiz
 {
     let named = put_name(out, at, label);
     let count = counts[label - 1] as usize;
-    put_rest(out, named, count, count as u64 * price::kind_row(label).price)
+    put_rest(
+        out,
+        named,
+        count,
+        count as u64 * price::kind_row(label).price,
+    )
 }
 
 // A line for each kind.
@@ -87,7 +93,12 @@ pub fn put_list(out: &mut [u8], list: Bill) -> usize
     let kinds = put_kinds(out, &counts);
     let named = put_text(out, kinds, b"loop buffer");
     let buffers = list.buffers;
-    let lines = put_rest(out, named, buffers as usize, price::BUFFER_PRICE * buffers as u64);
+    let lines = put_rest(
+        out,
+        named,
+        buffers as usize,
+        price::BUFFER_PRICE * buffers as u64,
+    );
     let total = put_text(out, lines, b"total ");
     let costs = put_amount(out, total, list.total);
     put_text(out, costs, b"\n")

@@ -159,11 +159,15 @@ module _ (n : ℕ) (away : member n others ≡ false) where
       let p₂ = past (unpaired g) _ r is (unpaired-by others refl g) (p₁ .2) in
       let q = unpaired-same g (p₂ .0) (p₂ .1) in
       let rest : (partsCheck (g .edges) >> answered (pricedGraph g)) ≡ refused r =
-      ap (λ (h : Graph). partsCheck (h .edges) >> answered (pricedGraph h)) (q .1) ∙ p₂ .2 in
-      (p₁ .0, p₁ .1, q .0, ⊎-elim
-      (λ (h : partsCheck (g .edges) ≡ answered tt). absurd (never (sym rest ∙ then-goes (partsCheck (g .edges)) (answered (pricedGraph g)) h)))
-      (λ (h : (x : Refusal) × (partsCheck (g .edges) ≡ refused x)). h .1 ∙ ap refused (same-refusal (sym (then-stops (partsCheck (g .edges)) (answered (pricedGraph g)) (h .0) (h .1)) ∙ rest)))
-      (one (partsCheck (g .edges))))
+      ap (λ (h : Graph). partsCheck (h .edges) >> answered (pricedGraph h)) (q .1) ∙ p₂ .2 in (
+        p₁ .0,
+        p₁ .1,
+        q .0,
+        ⊎-elim
+            (λ (h : partsCheck (g .edges) ≡ answered tt). absurd (never (sym rest ∙ then-goes (partsCheck (g .edges)) (answered (pricedGraph g)) h)))
+            (λ (h : (x : Refusal) × (partsCheck (g .edges) ≡ refused x)). h .1 ∙ ap refused (same-refusal (sym (then-stops (partsCheck (g .edges)) (answered (pricedGraph g)) (h .0) (h .1)) ∙ rest)))
+            (one (partsCheck (g .edges))),
+      )
 
   told-fault : (b : List ℕ) → Below 256 b → (old new : List ℕ) (lent r : ℕ) → Returns (priceCall b (length old) lent) r old new → codeIn r ≡ n → 0 < n → (g : Graph) × ToldFault b r old new g
   told-fault b clean old new lent r h code some = go (priceCall b (length old) lent) refl

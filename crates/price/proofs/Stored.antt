@@ -36,17 +36,19 @@ price-answer b p e =
     let rest : (partsCheck (g .edges) >> answered (pricedGraph g)) ≡ answered p =
     ap (λ (h : Graph). partsCheck (h .edges) >> answered (pricedGraph h)) (q .1) ∙ p₂ .2 in
     let h = checked (partsCheck (g .edges)) (answered (pricedGraph g)) rest in
-    let is : pricedGraph g ≡ p = same-answer (h .1) in
-    (s, subst (PricedOf b s) is (record {
-      stored = p₁ .1;
-      pairless = q .0;
-      in-order = h .0;
-      is = refl;
-      twelve = refl;
-      buffered = refl;
-      billed = total-is-cost g (h .0);
-      all-counted = parts-and-spiders g (h .0);
-    }))
+    let is : pricedGraph g ≡ p = same-answer (h .1) in (
+      s,
+      subst (PricedOf b s) is (record {
+        stored = p₁ .1;
+        pairless = q .0;
+        in-order = h .0;
+        is = refl;
+        twelve = refl;
+        buffered = refl;
+        billed = total-is-cost g (h .0);
+        all-counted = parts-and-spiders g (h .0);
+      }),
+    )
 
 -- each number fits its field in both versions
 pub price-small : (b : List ℕ) (p : Priced) → Below 256 b → price b ≡ answered p → Small p

@@ -28,10 +28,10 @@ looped = edgesOf (part 8 (0 ∷ []) (0 ∷ []) ∷ part spider (1 ∷ 1 ∷ []) 
 -- one of each kind, all loops through node 0: the sum of the twelve prices, and one buffer
 abbrev pub oneOfEach : Graph
 oneOfEach = edgesOf (
-  part 1 none (0 ∷ []) ∷ part 2 (0 ∷ []) none ∷ part 3 (0 ∷ []) (1 ∷ 2 ∷ []) ∷ part 4 (0 ∷ 1 ∷ []) (2 ∷ []) ∷ part 5 (0 ∷ []) (1 ∷ [])
-  ∷ part 6 (0 ∷ 1 ∷ []) (2 ∷ []) ∷ part 7 (0 ∷ 1 ∷ []) (2 ∷ []) ∷ part 8 (0 ∷ []) (1 ∷ []) ∷ part 9 (0 ∷ []) (1 ∷ []) ∷ part 10 (0 ∷ []) (1 ∷ 2 ∷ [])
-  ∷ part 11 (0 ∷ 1 ∷ []) (2 ∷ []) ∷ part 12 (0 ∷ 1 ∷ []) (0 ∷ 2 ∷ []) ∷ []
-)
+    part 1 none (0 ∷ []) ∷ part 2 (0 ∷ []) none ∷ part 3 (0 ∷ []) (1 ∷ 2 ∷ []) ∷ part 4 (0 ∷ 1 ∷ []) (2 ∷ []) ∷ part 5 (0 ∷ []) (1 ∷ [])
+    ∷ part 6 (0 ∷ 1 ∷ []) (2 ∷ []) ∷ part 7 (0 ∷ 1 ∷ []) (2 ∷ []) ∷ part 8 (0 ∷ []) (1 ∷ []) ∷ part 9 (0 ∷ []) (1 ∷ []) ∷ part 10 (0 ∷ []) (1 ∷ 2 ∷ [])
+    ∷ part 11 (0 ∷ 1 ∷ []) (2 ∷ []) ∷ part 12 (0 ∷ 1 ∷ []) (0 ∷ 2 ∷ []) ∷ []
+    )
 
 -- the first at fault decides: 15 before 14, and 14 before 15; a pair before both
 abbrev pub misfit : Graph

@@ -53,8 +53,7 @@ put-list-requires c κs =
     let s = e .before .before .before .before .before .before .before .before .before in
     let b = now (s .args .src) in
     let clean : Below 256 b = below-each 256 b (λ i l. omega (arith, e .before .before .before .before .before .before .before .before .shared-slice-known .given i)) in
-    let p = found e in
-    (
+    let p = found e in (
       subst (λ (y : Bill). Countable (y .counts)) (sym (p .2)) (countable b 0 (length (now (s .args .room))) (p .0) (p .1) clean),
       omega (arith, price-small b (p .0) clean (sym (priced s) ∙ p .1) .buffers, ap (λ (y : Bill). y .buffers) (p .2)),
       s .pre .1,
@@ -67,8 +66,7 @@ returns-2 c =
     let s = e .before .before .before .before .before .before .before .before .before in
     let a = s .args in
     let p = found e in
-    let l = c .before .before .put-list in
-    (
+    let l = c .before .before .put-list in (
       subst (λ (t : List ℕ). Printed (now (a .out)) 0 t (l .last .0) (l .result)) (ap (λ (y : Bill). listText (y .counts) (y .buffers) (y .total)) (p .2) ∙ sym (ap told (sym (priced s) ∙ p .1))) (l .ensures .0),
       l .ensures .1,
     )

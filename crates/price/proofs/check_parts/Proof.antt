@@ -86,8 +86,8 @@ loop-again c =
       omega arith,
       l .inv .1,
       turned es (l .i) (l .k) (k .before .edge-at .result .end) (edge-inside (s .pre) (l .i) (omega arith)) (l .inv .2)
-      (test-answered (partCheck (getD es (l .i) noEdge)) (k .check-part .result) (looked k) _ (c .enum-told .given .1) .1)
-      (ap (λ (e : EdgeAt). e .end) (apart (k .before) ∙ there (k .before .before) .counts)),
+          (test-answered (partCheck (getD es (l .i) noEdge)) (k .check-part .result) (looked k) _ (c .enum-told .given .1) .1)
+          (ap (λ (e : EdgeAt). e .end) (apart (k .before) ∙ there (k .before .before) .counts)),
     )
 
 returns-2 : tie.Need-returns-2 Inv-loop μ-loop

@@ -57,7 +57,7 @@ loop-again c =
       omega arith,
       l .inv .1,
       c .add-part .ensures
-      ∙ counted (graphOf (now (s .args .src)) .edges) (s .pre .0 .within .counts .edges) (s .pre .1) (l .i) (edge-inside (s .pre .0) (l .i) (omega arith)) (l .parts) (l .inv .2) _ (label (c .before)),
+          ∙ counted (graphOf (now (s .args .src)) .edges) (s .pre .0 .within .counts .edges) (s .pre .1) (l .i) (edge-inside (s .pre .0) (l .i) (omega arith)) (l .parts) (l .inv .2) _ (label (c .before)),
     )
 
 returns : tie.Need-returns Inv-loop μ-loop

@@ -43,7 +43,7 @@ returns c =
     let last = c .before .before .put-rest in
     let count = countOf (now (a .counts)) (a .label) in (
       printed-then (ascii (kindOf (a .label) .name)) (rest count (count * kindOf (a .label) .price)) (name .ensures .0)
-      (subst (λ (x : ℕ). Printed (name .last .0) (name .result) (rest count (count * x)) (last .last .0) (last .result)) (price (c .before .before .before .before)) (last .ensures .0)),
+          (subst (λ (x : ℕ). Printed (name .last .0) (name .result) (rest count (count * x)) (last .last .0) (last .result)) (price (c .before .before .before .before)) (last .ensures .0)),
       omega (arith, name .ensures .1, last .ensures .1),
     )
 
