@@ -9,7 +9,7 @@ use Rattle.graph.proofs.Laws.{joined-append}
 use Rattle.graph.proofs.Lists.{range-add}
 use Rattle.text.specs.Text.{ascii, decimal, field, Printed}
 use Rattle.text.proofs.Texts.{printed-then}
-use Rattle.bill.specs.Bill.{amount, rest, kindLine, buffersLine, totalLine, listText}
+use Rattle.bill.specs.Bill.{amount, rest, kindLine, buffersLine, totalLine}
 
 -- an amount
 pub printed-amount : {a b c d : List ℕ} {at i j k : ℕ} (n : ℕ) → Printed a at (decimal (n / 100)) b i → Printed b i (ascii ".") c j

@@ -8,14 +8,12 @@ use Prim.Native.Nat.{ℕ, _*_, _^_, _/_, _%_, _≤_, min}
 use native.Mathlib.Omega.{arith}
 use lib.Dec.{eqb}
 use lib.ListN.{length, take, drop}
-use lib.Seq.{take-at, drop-at}
 use borrow.Author.Tests.{eqb-true, eq-eqb}
 use Rattle.le.specs.Le.{Below, numbers, row}
 use Rattle.le.proofs.Numbers.{below-widen, numbers-row, length-row}
 use Rattle.graph.specs.Answer.{Refusal, Answer, refused, answered, Result, refusal, laid, _else_, _>>_}
 use Rattle.graph.specs.Calls.{idList, spiderizeNodesCall}
-use Rattle.graph.specs.Form.{encode}
-use Rattle.graph.specs.Graph.{Graph, Format, form1, form2, WellFormed}
+use Rattle.graph.specs.Graph.{Graph, Format, form1, form2}
 use Rattle.graph.specs.Read.{readVersion}
 use Rattle.graph.specs.Spider.{spiderize}
 use Rattle.graph.specs.Versions.{StoredGraph, formatNumbered, readFitting, fitting, read}

@@ -10,10 +10,9 @@ use lib.Dec.{T, eqb}
 use lib.ListN.{length, take, drop}
 use Rattle.le.specs.Le.{Below, numberAt, numbers}
 use Rattle.graph.specs.Answer.{answered}
-use Rattle.graph.specs.Form.{encode}
-use Rattle.graph.specs.Graph.{Graph, WellFormed}
+use Rattle.graph.specs.Graph.{Graph}
 use Rattle.graph.specs.Spider.{spiderize}
-use Rattle.graph.specs.Versions.{fitting, read}
+use Rattle.graph.specs.Versions.{read}
 use Rattle.choice.specs.Arcs.{In, vertices, Cycle, NoCycle}
 use Rattle.choice.specs.Choice.{Chooses, Ascends}
 use Rattle.choice.specs.Drawing.{arcs, vertexCount, selectable}

@@ -2,18 +2,17 @@
 -- Assumes nothing.
 use mathlib.Core.Path.{_≡_, refl, sym, ap, _∙_, subst}
 use mathlib.Core.Bool.{Bool, true, false, false≢true}
-use mathlib.Core.List.{List, [], _∷_, _++_, map, append-assoc, List·Memᴰ·not-nil, List·Memᴰ·cases-cons}
-use mathlib.Core.Logic.{_⊎_, inl, inr, ⊎-elim, _↔_}
-use Prim.Native.Nat.{ℕ, zero, _+_, _*_, _^_, _≤_, _<_, min}
+use mathlib.Core.List.{List, [], _∷_, _++_, append-assoc, List·Memᴰ·not-nil, List·Memᴰ·cases-cons}
+use mathlib.Core.Logic.{_⊎_, inl, inr, ⊎-elim}
+use Prim.Native.Nat.{ℕ, zero, _+_, _*_, _<_, min}
 use native.Mathlib.Omega.{arith}
-use lib.Dec.{eqb, leb}
+use lib.Dec.{leb}
 use lib.ListN.{length, take, drop, length-append}
-use lib.Seq.{take-at, drop-at}
-use borrow.Author.Tests.{eq-eqb}
-use Rattle.le.specs.Le.{Below, bytes, row, number, numbers, numberAt}
+use lib.Seq.{drop-at}
+use Rattle.le.specs.Le.{Below, bytes, row, number, numbers}
 use Rattle.le.proofs.Numbers.{below-widen, number-bytes, numbers-row, length-row}
-use Rattle.graph.specs.Answer.{Refusal, Answer, refused, answered, Result, refusal, writing, laid, _else_, _>>=_, _>>_}
-use Rattle.graph.specs.Calls.{unpaired, fit, inWorkRoom}
+use Rattle.graph.specs.Answer.{Refusal, Answer, refused, answered, Result, refusal, laid, _else_, _>>=_, _>>_}
+use Rattle.graph.specs.Calls.{unpaired, inWorkRoom}
 use Rattle.graph.specs.Graph.{Edge, Graph}
 use Rattle.graph.specs.Lists.{member}
 use Rattle.graph.specs.Versions.{StoredGraph, read}
@@ -25,13 +24,13 @@ use Rattle.choice.specs.Calls.{cycleBreakingNodesCall}
 use Rattle.choice.specs.Drawing.{chosen}
 use Rattle.choice.proofs.Stored.{cycle-breaking-nodes-answer}
 use Rattle.packing.specs.Packed.{packed, Returns, Ranged}
-use Rattle.packing.specs.Unpacked.{codeIn, aIn, bIn}
+use Rattle.packing.specs.Unpacked.{codeIn, aIn}
 use Rattle.packing.proofs.Caller.{answer-of, draws, kept}
 use Rattle.packing.proofs.Ranges.{cycle-breaking-nodes-ranged}
 use Rattle.packing.proofs.Unpacked.{code-of-packed, b-of-packed}
 use Rattle.price.specs.Caller.{countsIn, buffersIn, totalIn, ToldPrice, ToldFault}
-use Rattle.price.specs.Price.{catalogue, kinds, bufferPrice, isSpider, partCheck, partsCheck, ofKind, Priced, pricedGraph, price, priceBytes, priceAnswer, roomPrice, priceCall}
-use Rattle.price.specs.Promises.{OfKind, FirstFault, cost, sum, PricedOf, Small}
+use Rattle.price.specs.Price.{catalogue, bufferPrice, isSpider, partCheck, partsCheck, Priced, pricedGraph, price, priceBytes, roomPrice, priceCall}
+use Rattle.price.specs.Promises.{OfKind, FirstFault, cost, sum, Small}
 use Rattle.price.proofs.Calls.{whole, written}
 use Rattle.price.proofs.Faults.{checked, then-goes, then-stops, one, refused-iff-first-fault, part-in-order}
 use Rattle.price.proofs.Ranges.{price-ranged}

@@ -22,8 +22,7 @@ use Rattle.form.specs.Form.{refusalOf, meantBy, Gives}
 use Rattle.form.specs.declared.Outcome.the-variants as call
 use Rattle.form.specs.declared.Refusal.{Refusal}
 use Rattle.form.specs.declared.Step.the-variants as step
-use Rattle.form.specs.declared.Step.{Step}
-use Rattle.form.proofs.Answers.{gives-refused, gives-done}
+use Rattle.form.proofs.Answers.{gives-done}
 use Rattle.price.specs.declared.Bill.{Bill}
 use Rattle.price.specs.declared.Pricing.{Pricing}
 use Rattle.price.specs.Parts.{partsOf, billed, billOf, Countable, bytesOf, pricing}

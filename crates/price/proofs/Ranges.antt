@@ -1,7 +1,7 @@
 -- The numbers of the call's answer fit their bits, and no refusal is 0.
 -- Assumes nothing.
 use mathlib.Core.List.{List}
-use mathlib.Core.Path.{_≡_, ap, _∙_}
+use mathlib.Core.Path.{ap}
 use Prim.Native.Nat.{ℕ}
 use native.Mathlib.Omega.{arith}
 use Rattle.graph.specs.Answer.{Result}

@@ -9,7 +9,6 @@ use lib.ListN.{length}
 use borrow.Author.Tests.{leb-true, ltb-true}
 use Rattle.graph.specs.Answer.{Answer, answered, refused, Refusal, Result, refusal, _else_, _>>_}
 use Rattle.graph.specs.Graph.{Edge}
-use Rattle.graph.specs.Lists.{member, all}
 use Rattle.graph.proofs.Refuses.{Refuses, RefusedBy, answer-by, refusal-by, test-by, step-by, member-passes}
 use Rattle.graph.proofs.RefusedBy.{reads-by, unpaired-by, fit-by, work-by}
 use Rattle.price.specs.Price.{Kind, kindOf, isSpider, partCheck, partsCheck, price, priceAnswer, priceCall}

@@ -1,14 +1,14 @@
 -- The priced parts list of stored bytes: what pricing and the call answer.
 -- Assumes nothing.
 use mathlib.Core.Path.{_≡_, refl, sym, ap, _∙_, subst}
-use mathlib.Core.List.{List, _∷_, [], _++_}
+use mathlib.Core.List.{List}
 use Prim.Native.Nat.{ℕ, _≤_, zero}
 use lib.Dec.{leb, eqb}
 use lib.ListN.{length}
 use borrow.Author.Tests.{leb-true, eqb-true}
 use Rattle.le.specs.Le.{Below}
 use Rattle.graph.specs.Graph.{Graph}
-use Rattle.graph.specs.Answer.{Answer, answered, Result, writing, _>>=_, _>>_}
+use Rattle.graph.specs.Answer.{answered, Result, writing, _>>=_, _>>_}
 use Rattle.graph.specs.Calls.{unpaired, fit}
 use Rattle.graph.specs.Versions.{StoredGraph, read}
 use Rattle.graph.proofs.Answers.{worked}

@@ -1,21 +1,20 @@
 -- The two walks over the edges: the check, which stops at the first edge at fault, and the counters.
 -- Assumes nothing.
-use mathlib.Core.List.{List, [], _∷_, _++_, map}
+use mathlib.Core.List.{List, [], _∷_, _++_}
 use mathlib.Core.Logic.{_⊎_, inl, inr, ⊎-elim}
 use mathlib.Core.Bool.{true}
 use mathlib.Core.Path.{_≡_, refl, sym, ap, _∙_, subst}
-use Prim.Native.Nat.{ℕ, zero, suc, _+_, _*_, _≤_, _<_}
-use native.Mathlib.Nat.{zero-add, add-zero, not-suc-le-zero}
-use native.Mathlib.Numerals.{add-one}
+use Prim.Native.Nat.{ℕ, zero, suc, _+_, _≤_, _<_}
+use native.Mathlib.Nat.{not-suc-le-zero}
 use native.Mathlib.Omega.{arith}
 use lib.ListN.{length, getD, take, drop, List·getD-map, take-append-drop}
 use lib.Seq.{take-all, drop-cons, length-take-le}
-use borrow.Author.Tests.{eqb-true, eq-eqb, ne-eqb, eqb-false}
+use borrow.Author.Tests.{eqb-true}
 use Rattle.le.specs.Rows.{Holds, entry}
 use Rattle.le.proofs.Rows.{holds-less, span-at}
 use Rattle.graph.specs.Answer.{answered, refused, Refusal}
 use Rattle.graph.specs.Form.{noEdge, edgeStart}
-use Rattle.graph.specs.Graph.{Edge, spider, largest, WellFormed}
+use Rattle.graph.specs.Graph.{Edge, spider}
 use Rattle.graph.proofs.Rows.{take-edges}
 use Rattle.choice.specs.Arcs.{howMany}
 use Rattle.form.specs.Form.{labelsOf}
@@ -25,7 +24,7 @@ use Rattle.form.proofs.Stored.{stored-rows}
 use Rattle.price.specs.Parts.{InCatalogue, Addable, partsOf, added}
 use Rattle.price.specs.declared.Parts.{Parts}
 use Rattle.price.specs.Price.{kinds, kindOf, isSpider, partCheck, partsCheck, ofKind, edgePrice, edgesPrice}
-use Rattle.price.specs.Promises.{OfKind, FirstFault}
+use Rattle.price.specs.Promises.{OfKind}
 use Rattle.price.proofs.Bounds.{counts-below, edges-price-few}
 use Rattle.price.proofs.Counters.{counters-next, counters-spider}
 use Rattle.price.proofs.Faults.{checked, then-goes, parts-append, refused-iff-first-fault, part-in-order}

@@ -3,11 +3,11 @@
 use mathlib.Core.Path.{_≡_}
 use mathlib.Core.Bool.{false}
 use mathlib.Core.List.{List, [], _∷_, _++_}
-use Prim.Native.Nat.{ℕ, zero, _+_, _*_, _≤_, _<_}
+use Prim.Native.Nat.{ℕ, zero, _+_, _*_, _≤_}
 use lib.ListN.{length}
 use Rattle.le.specs.Le.{Below}
-use Rattle.graph.specs.Graph.{Edge, Graph}
-use Rattle.graph.specs.Answer.{Answer, answered, refused, Refusal}
+use Rattle.graph.specs.Graph.{Edge}
+use Rattle.graph.specs.Answer.{answered, refused, Refusal}
 use Rattle.graph.specs.Versions.{StoredGraph, read}
 use Rattle.choice.specs.Arcs.{howMany}
 use Rattle.choice.specs.Drawing.{chosen}

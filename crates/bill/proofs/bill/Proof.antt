@@ -7,9 +7,8 @@ use native.Mathlib.Omega.{arith}
 use lib.ListN.{length}
 use denote.Ref.{now}
 use borrow.Author.Needs.{needs}
-use Rattle.form.specs.Form.{meantBy}
 use Rattle.form.proofs.Answers.{passed-on}
-use Rattle.graph.specs.Answer.{Answer, answered}
+use Rattle.graph.specs.Answer.{answered}
 use Rattle.graph.specs.Calls.{inWorkRoom}
 use Rattle.graph.proofs.Verdicts.{in-room}
 use Rattle.le.specs.Le.{Below}

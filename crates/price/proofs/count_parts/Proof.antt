@@ -1,9 +1,9 @@
 -- `price::count_parts` meets its contract.
 -- Assumes nothing.
-use mathlib.Core.Path.{_≡_, refl, sym, ap, _∙_}
+use mathlib.Core.Path.{_≡_, refl, ap, _∙_}
 use Prim.Native.Nat.{_+_, _-_, _≤_}
 use native.Mathlib.Omega.{arith}
-use lib.ListN.{length, getD, take}
+use lib.ListN.{getD, take}
 use denote.Ref.{now}
 use borrow.Author.Needs.{needs}
 use Rattle.graph.specs.Form.{noEdge}

@@ -1,7 +1,6 @@
 -- `price::price_drawing` meets its contract.
 -- Assumes nothing.
 use mathlib.Core.Path.{_≡_, sym, ap, _∙_}
-use Prim.Native.Nat.{_≤_}
 use native.Mathlib.Omega.{arith}
 use lib.ListN.{length}
 use denote.Ref.{now}
@@ -10,7 +9,6 @@ use Rattle.graph.specs.Answer.{Answer, answered, _>>_}
 use Rattle.graph.specs.Calls.{inWorkRoom}
 use Rattle.graph.specs.Graph.{Graph}
 use Rattle.graph.specs.Versions as versions
-use Rattle.choice.specs.Drawing.{chosen}
 use Rattle.form.specs.Form.{meantBy}
 use Rattle.form.specs.Stored.{storedOf, graphOf, Stored}
 use Rattle.form.specs.declared.Step.the-variants as step
@@ -19,7 +17,6 @@ use Rattle.form.proofs.Pairless.{room-short, graph-unread, graph-paired, graph-
 use Rattle.form.proofs.Stored.{stored-bytes}
 use Rattle.price.specs.declared.Bill.{Bill}
 use Rattle.price.specs.declared.Parts as declared
-use Rattle.price.specs.declared.Pricing.{Pricing}
 use Rattle.price.specs.Parts.{billed, pricing}
 use Rattle.price.specs.Price.{partsCheck, Priced, pricedGraph, price, roomPrice}
 use Rattle.price.proofs.Bounds.{edges-price-few, buffers-few}

@@ -6,7 +6,6 @@ use Prim.Native.Nat.{_-_, _≤_, _<_}
 use native.Mathlib.Omega.{arith}
 use lib.ListN.{length, getD, take}
 use denote.Ref.{now}
-use borrow.Author.Needs.{needs}
 use Rattle.le.specs.Rows.{rowAt, puts}
 use Rattle.le.proofs.Numbers.{below-at}
 use Rattle.le.proofs.Rows.{puts-none}

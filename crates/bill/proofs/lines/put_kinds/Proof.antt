@@ -1,11 +1,10 @@
 -- `bill::lines::put_kinds` meets its contract.
 -- Assumes nothing.
 use mathlib.Core.Path.{_≡_, refl, subst, _∙_}
-use Prim.Native.Nat.{ℕ, _+_, _-_, _*_, _≤_, _<_}
+use Prim.Native.Nat.{ℕ, _-_, _*_, _≤_, _<_}
 use native.Mathlib.Omega.{arith}
 use lib.ListN.{length}
 use denote.Ref.{now}
-use borrow.Author.Needs.{needs}
 use Rattle.graph.specs.Lists.{joined, range}
 use Rattle.text.specs.Text.{Printed}
 use Rattle.bill.specs.Bill.{kindLine}
