@@ -71,6 +71,7 @@ static void check_numbers(const struct function *f, const struct graph *g, uint6
     if (f->answers == SIZES && a != OHG_SIZES_BYTES) fail(f->name, "the sizes have 24 bytes");
     if (f->answers == EXPLAINED && a != g->nodes) fail(f->name, "each node has an entry");
     if (f->answers == YES && a > 1) fail(f->name, "a check answers 0 or 1");
+    if (f->answers == PRICES && a != OHG_PRICE_BYTES) fail(f->name, "a priced parts list has 60 bytes");
     if ((f->answers == FORM || f->answers == FORM_AND_MAP) && (a < 15 || a > OHG_FORM_BYTES)) fail(f->name, "a form has 15 to 655,385 bytes");
 }
 
@@ -326,6 +327,24 @@ static void check_engines(struct desk *d, const struct call *c, const struct out
         fail(functions[c->function].name, "both engines answer the same");
 }
 
+/* The first edge at fault decides, by parts.c; else the list has its counts, the choice's nodes as buffers, and their sum. */
+static void check_price(struct desk *d, const struct call *c, const struct outcome *o) {
+    struct counted p;
+    struct lent l;
+    const struct function *f = &functions[c->function];
+    const uint8_t *list = o->bytes[0];
+    count_parts(c->src, &p);
+    if (OHG_CODE(o->returned) != p.fault) fail(f->name, "the first edge at fault decides");
+    if (p.fault) return;
+    uint64_t chosen = follow(d, CHOOSE, c->src, (struct slice){0}, &l);
+    if (OHG_CODE(chosen)) fail(functions[CHOOSE].name, "it answers where a drawing is priced");
+    uint64_t total = p.total + 260ull * OHG_A(chosen);
+    for (int i = 0; i < KINDS; i++)
+        if (get(list + 4 * i, 4) != p.count[i]) fail(f->name, "it gives the count of each kind");
+    if (get(list + 48, 4) != OHG_A(chosen)) fail(f->name, "the buffers are the nodes of the choice");
+    if (get(list + 52, 4) != (uint32_t)total || get(list + 56, 4) != total >> 32) fail(f->name, "the total is what counts and buffers cost");
+}
+
 /* The call with the buffers that the case names: the same answer, or 10 where one is too short. */
 static void call_again(struct desk *d, const struct call *c, const struct outcome *o) {
     const struct function *f = &functions[c->function];
@@ -387,5 +406,6 @@ void run_case(struct desk *d, const struct call *c, struct outcome *o) {
     bool keeps = c->function == KEEPING || c->function == SCANNING;
     if (keeps && !g.refused) check_keeping(d, c, o, &g);
     if (c->function == SCANNING) check_engines(d, c, o);
+    if (c->function == PRICE && !g.refused && !g.pairs) check_price(d, c, o);
     current = NULL;
 }

@@ -30,6 +30,8 @@ uint64_t __real_ohg_find_loop(const uint8_t *src, size_t src_len, uint8_t *list,
 uint64_t __wrap_ohg_find_loop(const uint8_t *src, size_t src_len, uint8_t *list, size_t list_len, uint8_t *room, size_t room_len);
 uint64_t __real_ohg_reasons(const uint8_t *src, size_t src_len, uint8_t *out, size_t out_len, uint8_t *room, size_t room_len);
 uint64_t __wrap_ohg_reasons(const uint8_t *src, size_t src_len, uint8_t *out, size_t out_len, uint8_t *room, size_t room_len);
+uint64_t __real_ohg_price(const uint8_t *src, size_t src_len, uint8_t *out, size_t out_len, uint8_t *room, size_t room_len);
+uint64_t __wrap_ohg_price(const uint8_t *src, size_t src_len, uint8_t *out, size_t out_len, uint8_t *room, size_t room_len);
 uint64_t __real_ohg_spiderize(const uint8_t *src, size_t src_len, uint8_t *out, size_t out_len, uint8_t *room, size_t room_len);
 uint64_t __wrap_ohg_spiderize(const uint8_t *src, size_t src_len, uint8_t *out, size_t out_len, uint8_t *room, size_t room_len);
 uint64_t __real_ohg_spiderize_nodes(const uint8_t *src, size_t src_len, const uint8_t *ids, size_t ids_len, uint8_t *out, size_t out_len,
@@ -713,6 +715,59 @@ uint64_t __wrap_ohg_reasons(const uint8_t *src, size_t src_len, uint8_t *out, si
     case 138: if (done && nodes) out[0] ^= before & 1; break; /* what the room held counts */
     case 139: return paired && out_len < OHG_REASON_BYTES * (size_t)count_of(src, src_len, 0) ? OHG_SHORT_BUFFER : r; /* 10 before 8 */
     case 140: return done ? (uint64_t)cuts << 8 | (uint64_t)nodes << 32 : r; /* a and b exchanged */
+    }
+    return r;
+}
+
+/* Adds to a number of a priced parts list: a count, the buffers, or the low bytes of the total. */
+static void add_to(uint8_t *out, int number, uint32_t more) {
+    uint32_t n = get(out + 4 * number, 4) + more;
+    for (int i = 0; i < 4; i++) out[4 * number + i] = n >> 8 * i;
+}
+
+/* The form with each edge that has one label given another one. */
+static struct slice relabelled(const uint8_t *src, size_t src_len, uint32_t mask, uint32_t from, uint32_t to) {
+    static uint8_t form[SRC_MOST];
+    uint32_t width = ohg_width(src, src_len);
+    memcpy(form, src, src_len);
+    uint8_t *label = form + 5 + 5 * width + 4 * (size_t)count_of(src, src_len, 0);
+    for (uint32_t edges = count_of(src, src_len, 1); edges > 0; edges--, label += 4)
+        if ((get(label, 4) & mask) == from)
+            for (int i = 0; i < 4; i++) label[i] = to >> 8 * i;
+    return (struct slice){form, src_len};
+}
+
+uint64_t __wrap_ohg_price(const uint8_t *src, size_t src_len, uint8_t *out, size_t out_len, uint8_t *room, size_t room_len) {
+    uint64_t r = __real_ohg_price(src, src_len, out, out_len, room, room_len);
+    unsigned code = OHG_CODE(r);
+    bool done = code == OHG_DONE, at_fault = code == OHG_UNKNOWN_KIND || code == OHG_OTHER_PORTS;
+    enum { BUFFERS = 12, TOTAL = 13 };
+    struct counted p = {0};
+    struct slice form;
+    if (done || at_fault) count_parts((struct slice){(uint8_t *)src, src_len}, &p);
+    switch (planted()) {
+    case 141: return code == OHG_UNKNOWN_KIND ? OHG_OTHER_PORTS : r;
+    case 142: return at_fault ? p.last_fault : r; /* a later fault is told */
+    case 143: if (done) add_to(out, TOTAL, 95 * p.spiders); break; /* spiders are priced */
+    case 144: if (done) add_to(out, TOTAL, -260 * get(out + 48, 4)); break; /* buffers are left out of the total */
+    case 145: if (done) add_to(out, 3, get(out + 20, 4)), add_to(out, 5, -get(out + 20, 4)); break; /* a pick is counted as a hash, which has its ports */
+    case 146: if (done) memmove(out + 4, out, 44); break; /* a counter off by one place */
+    case 147: if (done) add_to(out, BUFFERS, 1), add_to(out, TOTAL, 260); break; /* a buffer too many */
+    case 148: if (done) out[59] ^= 1; break;
+    case 149: return at_fault ? placed(r, 1) : r;
+    case 150: if (code == OHG_SHORT_BUFFER && out_len) out[0] ^= 1; break;
+    case 151: /* a kind is looked up by the low bytes of its label */
+        if (code != OHG_UNKNOWN_KIND) return r;
+        form = relabelled(src, src_len, 0xFFFFFFFF, 0x10009, 9);
+        return __real_ohg_price(form.at, form.len, out, out_len, room, room_len);
+    case 152: /* pairs are passed over */
+        if (code != OHG_PENDING_PAIR) return r;
+        form = unpaired(src, src_len);
+        return __real_ohg_price(form.at, form.len, out, out_len, room, room_len);
+    case 153: return at_fault && out_len < OHG_PRICE_BYTES ? OHG_SHORT_BUFFER : r; /* 10 before 14 and 15 */
+    case 154: /* a spider is no part */
+        form = relabelled(src, done ? src_len : 0, 0xFFFFFFFF, 0xFFFFFFFF, 13);
+        return done ? __real_ohg_price(form.at, form.len, out, out_len, room, room_len) : r;
     }
     return r;
 }

@@ -7,6 +7,7 @@
 #include <stdint.h>
 
 #include "ohg.h"
+#include "price.h"
 
 #ifdef __has_feature
 #if __has_feature(address_sanitizer)
@@ -16,7 +17,7 @@
 #endif
 #endif
 
-enum { FUNCTIONS = 24, CODES = 17, LISTS = 2, OUTS = 2, LENGTHS = OUTS + 1, FITS = 8, GUARD = 256 };
+enum { FUNCTIONS = 25, CODES = 17, LISTS = 2, OUTS = 2, LENGTHS = OUTS + 1, FITS = 8, GUARD = 256 };
 
 /* The most bytes that are lent: more than any of them has a use for. */
 enum { SRC_MOST = 700000, LIST_MOST = 1 << 19, OUT_MOST = OHG_FORM_BYTES + 1024, ROOM_MOST = OHG_ROOM_CYCLE_BREAKING_NODES + 4096 };
@@ -26,7 +27,7 @@ struct slice {
     size_t len;
 };
 
-/* ---- functions.c: what bindings/ohg.h and docs/INTERFACE.md say of each function ---- */
+/* ---- functions.c: what the headers in bindings/ and docs/INTERFACE.md say of each function ---- */
 
 /* All that a call is given. */
 struct lent {
@@ -34,7 +35,7 @@ struct lent {
     struct slice src, list[LISTS], out[OUTS], room;
 };
 
-enum answers { SIZES, FORM, FORM_AND_MAP, LIST, LOOP, EXPLAINED, YES };
+enum answers { SIZES, FORM, FORM_AND_MAP, LIST, LOOP, EXPLAINED, YES, PRICES };
 enum second { NOTHING, NODE_ID, EDGE_ID, ENTRIES, FREE, STEPS, CUTS }; /* what b is */
 enum numbers { NO_NUMBER, LABEL, TWO_NODES, EDGE_AND_LABEL };
 enum entries { NO_LIST, LABELS, NODES, EDGES }; /* of lists in the call */
@@ -54,7 +55,7 @@ struct function {
 
 extern const struct function functions[FUNCTIONS];
 
-enum { READ = 0, REWRITE = 1, DISCRETE = 3, DELETE_NODES = 13, SPIDERIZE = 14, SPIDERIZE_NODES = 15, CHOOSE = 16, NO_LOOP = 17, QUOTIENT = 19, KEEPING = 20, FIND_LOOP = 21, SCANNING = 22, REASONS = 23 };
+enum { READ = 0, REWRITE = 1, DISCRETE = 3, DELETE_NODES = 13, SPIDERIZE = 14, SPIDERIZE_NODES = 15, CHOOSE = 16, NO_LOOP = 17, QUOTIENT = 19, KEEPING = 20, FIND_LOOP = 21, SCANNING = 22, REASONS = 23, PRICE = 24 };
 
 /* ---- record.c: a call as the bytes of a file ---- */
 
@@ -194,6 +195,27 @@ struct explained {
 void explain(struct slice src, struct explained *e);
 /* An entry of 16 bytes. */
 struct reason get_reason(const uint8_t *entry);
+
+/* ---- parts.c: the parts of a drawing and what they cost, written from T-07's text apart from the port ---- */
+
+enum { KINDS = 12 };
+
+struct kind {
+    uint32_t sources, targets;
+    uint64_t price;
+};
+
+extern const struct kind catalogue[KINDS];
+
+/* The fault of the first edge at fault, 0 where there is none, and that of the last one. What is counted is in order. */
+struct counted {
+    unsigned fault, last_fault;
+    uint32_t count[KINDS], spiders;
+    uint64_t total;
+};
+
+/* The parts of a form that is taken and has no pairs. */
+void count_parts(struct slice src, struct counted *p);
 
 /* ---- cases.c: calls that belong together ---- */
 

@@ -148,6 +148,32 @@ static size_t drawn_form(struct random *r, enum size size, uint8_t *to) {
     return put_pairs(r, at, count[5], nodes, width) - to;
 }
 
+/* The form of parts in order by chance, of version 1, spiders with any ports among them; now and then some are at fault. */
+static size_t drawn_parts(struct random *r, enum size size, uint8_t *to) {
+    uint32_t nodes = 1 + below(r, size == SMALL ? 8 : 2048), edges = below(r, size == SMALL ? 8 : 1025);
+    unsigned faults = one_in(r, 4) ? 1 + below(r, 3) : 0;
+    uint8_t *at = put(put(to, 0x47484F, 3), 1, 2), *label = put(put(at, nodes, 2), edges, 2);
+    label = put(put(label, 0, 4), 0, 2);
+    for (uint32_t i = 0; i < nodes; i++) label = put(label, a_label(r), 4);
+    at = label + 4 * edges;
+    for (uint32_t left = edges; left > 0; left--) {
+        bool spider = one_in(r, 8);
+        uint32_t kind = below(r, KINDS), ports[] = {catalogue[kind].sources, catalogue[kind].targets};
+        if (spider)
+            for (int i = 0; i < 2; i++) ports[i] = below(r, 4);
+        label = put(label, spider ? 0xFFFFFFFF : kind + 1, 4);
+        if (below(r, left) < faults) {
+            faults--;
+            uint64_t fault = below(r, 4);
+            if (fault & 1) put(label - 4, one_in(r, 2) ? (kind + 1) | 0x10000 : 13 * below(r, 2), 4);
+            if (fault != 1) ports[below(r, 2)] += 1;
+        }
+        at = put(put(at, ports[0], 2), ports[1], 2);
+        at = put_ids(r, at, ports[0] + ports[1], nodes, 2);
+    }
+    return at - to;
+}
+
 /* Numbers at which a check could be one off. */
 static uint32_t a_border(struct random *r) {
     static const uint32_t borders[] = {0, 1, 127, 128, 255, 256, 1024, 2048, 4096, 8192, 16384, 32767, 32768, 65535, 65536, 0x7FFFFFFF, 0xFFFFFFFF};
@@ -278,7 +304,7 @@ struct call make_call(struct maker *m) {
     struct call c = {.function = below(r, FUNCTIONS), .sides = any(r), .src = {m->src, 0}};
     const struct function *f = &functions[c.function];
     for (int i = 0; i < LENGTHS; i++) c.fit[i] = one_in(r, 3) ? any(r) : 2;
-    if (f->graph) c.src.len = make_src(m);
+    if (f->graph) c.src.len = c.function == PRICE && !one_in(r, 4) ? drawn_parts(r, size_class(m), m->src) : make_src(m);
     uint32_t counts[2] = {0, 0}, width = ohg_width(c.src.at, c.src.len);
     if (c.src.len >= 15)
         for (int i = 0; i < 2; i++) counts[i] = get(m->src + 5 + width * i, width);

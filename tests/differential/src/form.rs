@@ -67,6 +67,10 @@ pub enum Refusal {
     Pair = 8,
     /// Two nodes of one class have different labels.
     Labels = 11,
+    /// An edge's label is outside of the catalogue of parts, and it is no spider.
+    UnknownKind = 14,
+    /// An edge has other numbers of sources and targets than its kind.
+    OtherPorts = 15,
     /// Some directed cycle has only kept nodes.
     KeptCycle = 16,
     /// The result would pass a limit of version 2.

@@ -1,11 +1,12 @@
-//! The lengths of the work rooms, which stand in the port's C header.
+//! The lengths of the work rooms, which stand in the C headers of the port and of the archive above it.
 
 use std::collections::HashMap;
 use std::path::{Path, PathBuf};
 use std::{env, fs};
 
-/// The header, seen from the repository's root.
+/// The port's header, seen from the repository's root, and the other, which stands beside it.
 const HEADER: &str = "bindings/ohg.h";
+const ABOVE: &str = "price.h";
 
 /// A length stands in a line of its own: `#define OHG_ROOM_DELETE_NODES 4096`.
 const DEFINE: &str = "#define ";
@@ -17,13 +18,16 @@ pub struct Rooms {
 }
 
 impl Rooms {
-    /// Reads the header, or the one that `OHG_HEADER` names.
+    /// Reads the headers: the port's, or the one that `OHG_HEADER` names, and what is above it.
     pub fn read() -> Result<Rooms, String> {
         let root = Path::new(env!("CARGO_MANIFEST_DIR")).join("../..");
         let header = root.join(env::var_os("OHG_HEADER").unwrap_or(HEADER.into()));
-        let text = fs::read_to_string(&header);
-        let text = text.map_err(|e| format!("{}: {e}", header.display()))?;
-        let lengths = text.lines().filter_map(defined).collect();
+        let mut lengths = HashMap::new();
+        for header in [&header, &header.with_file_name(ABOVE)] {
+            let text = fs::read_to_string(header);
+            let text = text.map_err(|e| format!("{}: {e}", header.display()))?;
+            lengths.extend(text.lines().filter_map(defined));
+        }
         Ok(Rooms { header, lengths })
     }
 

@@ -10,7 +10,7 @@ use crate::rng::Rng;
 use crate::rooms::Rooms;
 use crate::rows::choice::ENGINES;
 use crate::rows::spidering::chain;
-use crate::rows::{functions, GROUPS};
+use crate::rows::{functions, ABOVE, GROUPS};
 use crate::show::show;
 use std::collections::BTreeMap;
 use std::mem::{discriminant, Discriminant};
@@ -49,7 +49,7 @@ pub struct Run {
 
 /// All shares of a run.
 pub fn shares() -> u64 {
-    let groups: u64 = GROUPS.iter().map(|group| group.share).sum();
+    let groups: u64 = GROUPS.iter().chain(ABOVE).map(|group| group.share).sum();
     groups + chain::SHARE
 }
 
@@ -68,7 +68,7 @@ fn sweeping_steps(arguments: &Arguments, outcome: &Outcome) -> usize {
 pub fn run(seed: u64, amount: Amount) -> Result<bool, String> {
     println!("seed {seed}");
     let mut run = Run::start(seed, amount.full)?;
-    for group in GROUPS {
+    for group in GROUPS.iter().chain(ABOVE) {
         let before = run.calls();
         let forms = run.group(group, amount);
         let calls = run.calls() - before;
@@ -86,7 +86,7 @@ impl Run {
     fn start(seed: u64, full: bool) -> Result<Self, String> {
         let rooms = Rooms::read()?;
         let mut by_number = BTreeMap::new();
-        for group in GROUPS {
+        for group in GROUPS.iter().chain(ABOVE) {
             for function in functions(group, &rooms)? {
                 by_number.insert(function.operation.number, function);
             }

@@ -187,16 +187,18 @@ fn tools() -> Result<PathBuf, String> {
     Ok(kit.join("on").join(env::consts::ARCH).join("toolchain/bin"))
 }
 
-/// Compiles `caller.c` with a table of the functions, links it with the port's archive, and says where it is.
+/// Compiles `caller.c` with a table of the functions, links it with the archives, and says where it is.
 fn linked(tools: &Path, functions: &[&str]) -> Result<PathBuf, String> {
     let library =
         Path::new(ROOT).join(env::var_os("OHG_LIB_DIR").unwrap_or("target/staticlib".into()));
-    let archive = library.join("libohg.a");
-    if !archive.is_file() {
-        return Err(format!(
-            "no {}: run `rt staticlib ohg` first",
-            archive.display()
-        ));
+    let archives = ["ohg", "price"].map(|name| (name, library.join(format!("lib{name}.a"))));
+    for (name, archive) in &archives {
+        if !archive.is_file() {
+            return Err(format!(
+                "no {}: run `rt staticlib {name}` first",
+                archive.display()
+            ));
+        }
     }
     let own = env::current_exe().map_err(|e| e.to_string())?;
     let program = own.with_file_name("caller");
@@ -207,7 +209,8 @@ fn linked(tools: &Path, functions: &[&str]) -> Result<PathBuf, String> {
     let output = Command::new(tools.join("clang"))
         .args(["--target=x86_64-unknown-linux-gnu", "-O2", "-ffreestanding"])
         .args(["-fno-builtin", "-nostdlib", "-static", "-fuse-ld=lld", "-o"])
-        .args([&program, &source, &archive])
+        .args([&program, &source])
+        .args(archives.map(|(_, archive)| archive))
         .output()
         .map_err(|e| format!("clang: {e}"))?;
     if output.status.success() {

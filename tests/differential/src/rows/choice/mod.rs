@@ -116,7 +116,7 @@ fn cycle_breaking_nodes(arguments: &Arguments) -> Outcome {
     })
 }
 
-fn chosen_by_original(graph: &Graph) -> Vec<usize> {
+pub fn chosen_by_original(graph: &Graph) -> Vec<usize> {
     let chosen = cycle::cycle_breaking_nodes(graph).expect("there are no pairs");
     chosen.iter().map(|node| node.0).collect()
 }
