@@ -190,8 +190,8 @@ def slowly(file, size):
         pass
 
 
-def main(folder):
-    for name, data, expected in cases():
+def write_cases(folder, cases):
+    for name, data, expected in cases:
         with open(os.path.join(folder, name + ".ohg"), "wb") as f:
             f.write(data)
         with open(os.path.join(folder, name + ".txt"), "w") as f:
@@ -202,4 +202,4 @@ if __name__ == "__main__":
     if sys.argv[1] == "--slowly":
         slowly(sys.argv[2], int(sys.argv[3]))
     else:
-        main(sys.argv[1])
+        write_cases(sys.argv[1], cases())

@@ -1,14 +1,14 @@
-//! The functions of `libohg.a` as `bindings/ohg.h` declares them, each behind a safe one of the same name over slices.
-//! All unsafe code of this crate is here. `ohg_rewrite` is left out: a graph's bytes are its form, so it would answer
-//! the same bytes.
+//! The functions of `libohg.a` as `bindings/ohg.h` declares them, and that of `libprice.a` as `bindings/price.h` does, each
+//! behind a safe one of the same name over slices. All unsafe code of this crate is here. `ohg_rewrite` is left out: a
+//! graph's bytes are its form, so it would answer the same bytes.
 
 /// Declares functions and makes the safe ones. A row has the parameters in their order: slices that are read, numbers,
-/// further slices that are read, slices that are written.
+/// further slices that are read, slices that are written. Before it stands the feature that it needs, if any.
 macro_rules! exported {
-    ($($name:ident($($src:ident)*; $($number:ident)*; $($list:ident)*; $($out:ident)*);)*) => {
+    ($($(#[$needs:meta])? $name:ident($($src:ident)*; $($number:ident)*; $($list:ident)*; $($out:ident)*);)*) => {
         mod c {
             extern "C" {
-                $(pub fn $name(
+                $($(#[$needs])? pub fn $name(
                     $($src: *const u8, _: usize,)*
                     $($number: u32,)*
                     $($list: *const u8, _: usize,)*
@@ -17,7 +17,7 @@ macro_rules! exported {
             }
         }
 
-        $(pub fn $name(
+        $($(#[$needs])? pub fn $name(
             $($src: &[u8],)*
             $($number: u32,)*
             $($list: &[u8],)*
@@ -61,4 +61,6 @@ exported! {
     ohg_find_loop(src;;; list room);
     ohg_no_loop(src;;; room);
     ohg_once_fed(src;;; room);
+    #[cfg(feature = "price")]
+    ohg_price(src;;; out room);
 }

@@ -28,6 +28,8 @@
 #[allow(unsafe_code)]
 mod exported;
 mod lent;
+#[cfg(feature = "price")]
+pub mod price;
 mod refusal;
 
 use exported::*;

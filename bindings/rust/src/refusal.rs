@@ -1,7 +1,7 @@
 use std::error::Error;
 use std::fmt;
 
-/// Why a call was refused. The numbers are those of `ohg.h`; where several hold, `docs/INTERFACE.md` says which is given.
+/// Why a call was refused. The numbers are those of `ohg.h` and `price.h`; where several hold, `docs/INTERFACE.md` says which is given.
 #[derive(Debug, Clone, Copy, PartialEq, Eq, Hash)]
 #[non_exhaustive]
 pub enum Refusal {
@@ -25,6 +25,10 @@ pub enum Refusal {
     PendingPair = 8,
     /// Two nodes that pending pairs join have different labels.
     LabelsDiffer = 11,
+    /// An edge's label is outside of the catalogue of parts, and it is no spider. The first edge at fault decides.
+    UnknownKind = 14,
+    /// An edge has other numbers of sources and targets than its kind. The first edge at fault decides.
+    OtherPorts = 15,
     /// Some directed cycle has only kept nodes.
     KeptCycle = 16,
     /// The result would pass a limit of version 2.
@@ -34,7 +38,7 @@ pub enum Refusal {
 }
 
 impl Refusal {
-    const ALL: [Refusal; 13] = [
+    const ALL: [Refusal; 15] = [
         Refusal::NoHeader,
         Refusal::NoMark,
         Refusal::OtherVersion,
@@ -45,12 +49,14 @@ impl Refusal {
         Refusal::BadList,
         Refusal::PendingPair,
         Refusal::LabelsDiffer,
+        Refusal::UnknownKind,
+        Refusal::OtherPorts,
         Refusal::KeptCycle,
         Refusal::ResultLimit,
         Refusal::ShortBuffer,
     ];
 
-    /// The refusal's number, 1 to 11, 13 or 16.
+    /// The refusal's number, 1 to 11 or 13 to 16.
     pub fn number(self) -> u8 {
         self as u8
     }
@@ -58,7 +64,7 @@ impl Refusal {
     /// The refusal of a number.
     pub(crate) fn of(number: u8) -> Refusal {
         let known = Refusal::ALL.into_iter().find(|r| r.number() == number);
-        known.expect("libohg.a refuses by no other number")
+        known.expect("the library refuses by no other number")
     }
 
     /// What was wrong, and what to do.
@@ -92,12 +98,18 @@ impl Refusal {
             Refusal::LabelsDiffer => {
                 "nodes that pairs join have different labels; give them one, or delete the pair's nodes"
             }
+            Refusal::UnknownKind => {
+                "an edge's label is outside of the catalogue; give it a kind, 1 to 12"
+            }
+            Refusal::OtherPorts => {
+                "an edge has other numbers of sources and targets than its kind; mend its ports"
+            }
             Refusal::KeptCycle => {
                 "some directed cycle has only kept nodes; free one of these wires, or redraw the loop"
             }
             Refusal::ResultLimit => "the result would pass a limit; split the drawing",
             Refusal::ShortBuffer => {
-                "a buffer or work room is too short; link the libohg.a that belongs to this crate"
+                "a buffer or work room is too short; link the archives that belong to this crate"
             }
         }
     }
