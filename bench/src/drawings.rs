@@ -1,5 +1,6 @@
 //! The drawings that are measured.
 
+use crate::pricing::of_parts;
 use differential::form::{self, id_bytes, Drawing, Edge, Sizes, Version, VERSION_1, VERSION_2};
 use differential::rng::Rng;
 use differential::rows::choice::families::{dense, hub, ring, rings, sparse, tree, Family};
@@ -60,6 +61,12 @@ fn by_chance(rng: &mut Rng, sizes: Sizes) -> Drawing {
         targets: ids(sizes.targets),
         pairs: ids(sizes.pairs).into_iter().zip(ids(sizes.pairs)).collect(),
     }
+}
+
+/// So many nodes and as many parts with two sources and two targets, which are flow stores.
+pub fn parts(rng: &mut Rng, nodes: usize) -> Drawing {
+    let drawing = by_chance(rng, sizes(nodes, 0));
+    of_parts(rng, drawing)
 }
 
 /// What merging is measured on, by the pairs: random drawings whose nodes have one label, so that any can be joined, with

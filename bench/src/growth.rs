@@ -10,14 +10,15 @@ use crate::drawings::every_eighth;
 use crate::explaining::reasons;
 use crate::inputs::{
     Inputs, BARE, EIGHTH_OF_JOINED, EIGHTH_TO_SPIDERIZE, FALLING, GLOBAL_NODES, JOINED,
-    JOINED_TO_SPIDERIZE, KEEPING, NODES, NOTHING, ONE_EDGE, RANDOM, RINGS, RISING, TO_ADD_TO,
-    TO_SPIDERIZE, TREES,
+    JOINED_TO_SPIDERIZE, KEEPING, NODES, NOTHING, ONE_EDGE, PARTS, RANDOM, RINGS, RISING,
+    TO_ADD_TO, TO_SPIDERIZE, TREES,
 };
 use crate::keeping::keeping_a_tenth;
 use crate::merging::quotient;
 use crate::once_fed::once_fed;
 use crate::plot::{self, Line, Panel};
 use crate::port;
+use crate::pricing::price;
 use crate::reading::{read, rewrite};
 use crate::scanning::scanning;
 use crate::showing::find_loop;
@@ -65,6 +66,7 @@ const IN_ROOM: [(&str, Inputs, TimesInRoom); 17] = [
     ("ohg_find_loop", RINGS, find_loop),
     ("ohg_no_loop", TREES, no_loop),
     ("ohg_once_fed", RINGS, once_fed),
+    ("ohg_price", PARTS, price),
 ];
 
 type TimesInRoom = fn(&[Vec<u8>], &mut [u8]) -> Vec<f64>;

@@ -1,7 +1,7 @@
 //! What the growth of a call is measured on.
 
 use crate::drawings::{
-    falling_chain, forms_of, label_bytes, random_pairs, rising_chain, several, size, sizes,
+    falling_chain, forms_of, label_bytes, parts, random_pairs, rising_chain, several, size, sizes,
 };
 use differential::form::{Sizes, Version, VERSION_1};
 use differential::rows::choice::families::{ring, tree};
@@ -58,6 +58,13 @@ pub const TO_ADD_TO: Inputs = Inputs {
 pub const BARE: Inputs = Inputs {
     words: "random, no lists",
     of: |nodes| sized(forms_of(sizes(nodes, 0))),
+    ..RANDOM
+};
+
+/// The same as parts: each edge is a flow store.
+pub const PARTS: Inputs = Inputs {
+    words: "random parts",
+    of: |nodes| sized(several(|rng| parts(rng, nodes))),
     ..RANDOM
 };
 

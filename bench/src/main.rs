@@ -1,5 +1,5 @@
 //! Measures each exported function beside the original and plain Rust, on the same inputs in one process, and prints
-//! tables for docs/MEASURES.md; or, by `scanning`, the second engine beside the first; or, by `reasons`, the reasons beside the choice; or, by `growth FILE.svg`, how the time of each grows with its drawing; or, by `between
+//! tables for docs/MEASURES.md; or, by `scanning`, the second engine beside the first; or, by `reasons` or `pricing`, the reasons or the priced parts list alone; or, by `growth FILE.svg`, how the time of each grows with its drawing; or, by `between
 //! BEFORE.a NOW.a`, two builds of the port beside each other; or, by `calls ARCHIVE.a NAME TIMES`, nothing: it only makes
 //! the calls.
 //!
@@ -20,6 +20,7 @@ mod merging;
 mod once_fed;
 mod plot;
 mod port;
+mod pricing;
 mod reading;
 mod scanning;
 mod showing;
@@ -39,13 +40,14 @@ fn main() -> ExitCode {
         [] => measure(),
         [mode] if mode == "scanning" => scanning::measure(),
         [mode] if mode == "reasons" => explaining::measure_alone(),
+        [mode] if mode == "pricing" => measure_pricing(),
         [mode, file] if mode == "growth" => growth::measure(file),
         [mode, before, now] if mode == "between" => between::measure(before, now),
         [mode, archive, name, times] if mode == "calls" => {
             between::make_calls(archive, name, times)
         }
         _ => Err(
-            "usage: cargo run --release [-- scanning | -- reasons | -- growth FILE.svg | -- between BEFORE.a NOW.a | -- calls ARCHIVE.a NAME TIMES]"
+            "usage: cargo run --release [-- scanning | -- reasons | -- pricing | -- growth FILE.svg | -- between BEFORE.a NOW.a | -- calls ARCHIVE.a NAME TIMES]"
                 .to_string(),
         ),
     };
@@ -72,6 +74,14 @@ fn measure() -> Result<(), String> {
     tables.extend(showing::measure(&rooms)?);
     tables.extend(once_fed::measure(&rooms)?);
     tables.extend(spidering::measure(&rooms)?);
+    tables.extend(pricing::measure(&rooms)?);
     table::print_summary(&tables);
+    Ok(())
+}
+
+fn measure_pricing() -> Result<(), String> {
+    let rooms = Rooms::read()?;
+    port::open_measured()?;
+    table::print_summary(&pricing::measure(&rooms)?);
     Ok(())
 }

@@ -97,27 +97,35 @@ pub fn place() -> usize {
     PLACE.load(Ordering::Relaxed)
 }
 
-static MEASURED: OnceLock<Build> = OnceLock::new();
+static MEASURED: OnceLock<[Build; 2]> = OnceLock::new();
 
-/// Opens the build that is measured beside the original: the delivered one on x86-64, else the one that `native-archive`
-/// makes; or the one in the folder that `OHG_LIB_DIR` names, counted from the repository's root.
+/// Opens the builds that are measured beside the original, of the port and of the archive above it: the delivered ones on
+/// x86-64, else those that `native-archive` makes; or those in the folder that `OHG_LIB_DIR` names, counted from the
+/// repository's root.
 pub fn open_measured() -> Result<(), String> {
     let (folder, command) = match env::consts::ARCH {
-        "x86_64" => ("target/staticlib", "rt staticlib ohg"),
+        "x86_64" => ("target/staticlib", "rt staticlib"),
         _ => ("target/native", "tools/native-archive"),
     };
     let folder = env::var_os("OHG_LIB_DIR").unwrap_or(folder.into());
     let root = PathBuf::from(env!("CARGO_MANIFEST_DIR")).join("..");
-    let archive = root.join(folder).join("libohg.a");
-    if !archive.is_file() {
-        return Err(format!("no {}: run `{command}` first", archive.display()));
-    }
-    let build = Build::open(&archive)?;
-    MEASURED.get_or_init(|| build);
+    let folder = root.join(folder);
+    let build = |name: &str| {
+        let archive = folder.join(format!("lib{name}.a"));
+        if !archive.is_file() {
+            return Err(format!(
+                "no {}: run `{command} {name}` first",
+                archive.display()
+            ));
+        }
+        Build::open(&archive)
+    };
+    let builds = [build("ohg")?, build("price")?];
+    MEASURED.get_or_init(|| builds);
     Ok(())
 }
 
-/// A function's address at each place, in the build that is measured; 0 where it was not looked up yet.
+/// A function's address at each place, in the builds that are measured; 0 where it was not looked up yet.
 pub struct Addresses([AtomicUsize; PLACES]);
 
 impl Addresses {
@@ -136,8 +144,9 @@ impl Addresses {
 
     #[cold]
     fn look_up(&self, name: &str) -> usize {
-        let found = MEASURED.get().and_then(|build| build.addresses(name));
-        let found = found.unwrap_or_else(|| panic!("no {name} in the archive"));
+        let mut builds = MEASURED.get().into_iter().flatten();
+        let found = builds.find_map(|build| build.addresses(name));
+        let found = found.unwrap_or_else(|| panic!("no {name} in the archives"));
         for (kept, address) in self.0.iter().zip(&found) {
             kept.store(*address, Ordering::Relaxed);
         }

@@ -36,6 +36,13 @@ pub const PLAIN_CHECK: [&str; 2] = ["plain check (decoded)", "plain check (store
 pub const PLAIN_WALK: [&str; 2] = ["plain walk (decoded)", "plain walk (stored)"];
 pub const CHOICE_AND_PLAIN: [&str; 3] = ["choice", "plain paths (decoded)", "plain paths (stored)"];
 
+/// The priced parts list stands beside a call of the port too, which comes first.
+pub const PLAIN_PRICING: [&str; 3] = [
+    "the choice alone",
+    "plain pricing (decoded)",
+    "plain pricing (stored)",
+];
+
 /// The ratios of one row of a table: the port's time to each of what it stands beside.
 struct Row {
     /// The row's first word.

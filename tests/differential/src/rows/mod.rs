@@ -5,7 +5,7 @@ pub mod choice;
 mod deleting;
 mod merging;
 pub mod once_fed;
-mod pricing;
+pub mod pricing;
 mod reading;
 pub mod spidering;
 

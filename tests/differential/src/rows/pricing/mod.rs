@@ -38,11 +38,11 @@ const OPERATIONS: &[Operation] = &[Operation {
 }];
 
 /// A kind of part: its label, how many sources and targets it has, and its price in hundredths of a cent.
-struct Kind {
-    label: u32,
-    sources: usize,
-    targets: usize,
-    price: u64,
+pub struct Kind {
+    pub label: u32,
+    pub sources: usize,
+    pub targets: usize,
+    pub price: u64,
 }
 
 const fn kind(label: u32, sources: usize, targets: usize, price: u64) -> Kind {
@@ -54,7 +54,7 @@ const fn kind(label: u32, sources: usize, targets: usize, price: u64) -> Kind {
     }
 }
 
-const CATALOGUE: [Kind; 12] = [
+pub const CATALOGUE: [Kind; 12] = [
     kind(1, 0, 1, 4200),
     kind(2, 1, 0, 4200),
     kind(3, 1, 2, 1150),
@@ -81,7 +81,8 @@ pub struct Priced {
 }
 
 impl Priced {
-    fn bytes(&self) -> Vec<u8> {
+    /// The counts and the buffers in 4 bytes each, the total in 8.
+    pub fn bytes(&self) -> Vec<u8> {
         let numbers = self.counts.iter().chain([&self.buffers]);
         let mut bytes: Vec<u8> = numbers.flat_map(|n| n.to_le_bytes()).collect();
         bytes.extend(self.total.to_le_bytes());
@@ -155,7 +156,7 @@ fn every(mut rng: Rng) -> Forms {
     let labels: Vec<u32> = (0..=13).chain([SPIDER]).collect();
     let small = small::graphs([2, 2, 3], false, Rng::new(rng.number()));
     let each = labels.len() * 9;
-    let mut one = move |digits: &mut usize, rng: &mut Rng| {
+    let one = move |digits: &mut usize, rng: &mut Rng| {
         let label = labels[small::place(digits, labels.len())];
         let [sources, targets] = [(); 2].map(|_| small::place(digits, 3));
         edge(
