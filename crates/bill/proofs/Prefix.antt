@@ -14,7 +14,7 @@ use Rattle.graph.specs.Calls.{unpaired}
 use Rattle.graph.specs.Form.{formBytes}
 use Rattle.graph.specs.Graph.{form2}
 use Rattle.graph.specs.Versions.{StoredGraph, read}
-use Rattle.graph.proofs.Prefix.{Same, stopped, went, read-more}
+use Rattle.text.proofs.Prefix.{Same, stopped, went, read-more}
 use Rattle.price.specs.Price.{partsCheck, Priced, pricedGraph, price}
 use Rattle.text.specs.Text.{refusedLine}
 use Rattle.bill.specs.Bill.{told, billText}

@@ -11,3 +11,4 @@ pub mod Flags
 pub mod Calls
 pub mod Entries
 pub mod Counted
+pub mod Few

@@ -13,7 +13,7 @@ use Rattle.form.specs.declared.Refusal.{Refusal}
 use Rattle.form.specs.declared.Sizes.{Sizes}
 use Rattle.form.specs.declared.Step.the-variants as step
 use Rattle.form.specs.declared.Step.{Step}
-use Rattle.graph.specs.Answer.{Answer, refused, _else_, _>>=_, _>>_, refusal}
+use Rattle.graph.specs.Answer.{Answer, refused, Result, _else_, _>>=_, _>>_, refusal}
 use Rattle.graph.specs.Calls.{unpaired, inWorkRoom}
 use Rattle.graph.specs.Graph.{Graph}
 use Rattle.graph.specs.Versions as versions
@@ -23,10 +23,10 @@ use Rattle.form.proofs.Stored.{unread}
 use Rattle.graph.proofs.Steps.{same-answer, passed, stops, goes}
 
 -- what follows the work room's test
-abbrev onPairless : {A : Type 0} → List ℕ → (versions.StoredGraph → Graph → Answer A) → Answer A
+abbrev onPairless : List ℕ → (versions.StoredGraph → Graph → Answer Result) → Answer Result
 onPairless b next = read b >>= λ s. unpaired (s .graph) >>= λ g. next s g
 
-module _ {A : Type 0} (b : List ℕ) (needed lent : ℕ) (next : versions.StoredGraph → Graph → Answer A) (room : Step) (is-room : room ≡ tested (leb needed lent else refusal 10)) where
+module _ (b : List ℕ) (needed lent : ℕ) (next : versions.StoredGraph → Graph → Answer Result) (room : Step) (is-room : room ≡ tested (leb needed lent else refusal 10)) where
   pub room-short : (x : Refusal) → room ≡ step.Refused x → (q : Refusal) → q ≡ refusalIn room → inWorkRoom needed lent (onPairless b next) ≡ refused (meantBy q)
   room-short x e q is = work-short needed lent (onPairless b next) room is-room q (passed-on e is)
 

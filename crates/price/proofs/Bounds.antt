@@ -9,7 +9,7 @@ use lib.ListN.{length, getD}
 use Rattle.le.specs.Le.{Below}
 use Rattle.graph.specs.Graph.{Edge, Graph, largest, WellFormed}
 use Rattle.choice.specs.Drawing.{chosen}
-use Rattle.choice.proofs.Ascending.{ascending-few}
+use Rattle.cycle.proofs.Few.{ascending-few}
 use Rattle.choice.proofs.Degrees.{howMany-length}
 use Rattle.choice.proofs.Graphs.{chosen-breaks}
 use Rattle.price.specs.Price.{Kind, kind, catalogue, kinds, kindOf, isSpider, ofKind, edgePrice, edgesPrice, pricedGraph}

@@ -7,6 +7,7 @@ pub mod Walking
 pub mod Putting
 pub mod Stored
 pub mod RefusedBy
+pub mod Pairless
 pub mod Calls
 pub mod Ranges
 pub mod Caller

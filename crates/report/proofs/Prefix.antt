@@ -14,7 +14,7 @@ use Rattle.graph.specs.Calls.{unpaired}
 use Rattle.graph.specs.Form.{formBytes}
 use Rattle.graph.specs.Graph.{Graph, form1}
 use Rattle.graph.specs.Read.{readAs}
-use Rattle.graph.proofs.Prefix.{Same, stopped, went, alike-then, alike-test, in-more, version-more}
+use Rattle.text.proofs.Prefix.{Same, stopped, went, alike-then, alike-test, in-more, version-more}
 use Rattle.text.specs.Text.{refusedLine}
 use Rattle.report.specs.Report.{told, reportText}
 

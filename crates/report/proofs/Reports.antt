@@ -31,7 +31,7 @@ use Rattle.graph.specs.Read.{readAs}
 use Rattle.graph.specs.Versions.{StoredGraph}
 use Rattle.le.specs.Le.{Below, row}
 use Rattle.le.specs.Rows.{rowAt, Holds, span}
-use Rattle.choice.proofs.Ascending.{ascending-few}
+use Rattle.cycle.proofs.Few.{ascending-few}
 use Rattle.choice.proofs.Graphs.{chosen-breaks}
 use Rattle.graph.proofs.Verdicts.{in-room, unpaired-0, unpaired-8}
 use Rattle.form.proofs.Stored.{stored}

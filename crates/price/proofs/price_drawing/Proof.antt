@@ -13,7 +13,6 @@ use Rattle.form.specs.Form.{meantBy}
 use Rattle.form.specs.Stored.{storedOf, graphOf, Stored}
 use Rattle.form.specs.declared.Step.the-variants as step
 use Rattle.form.proofs.Answers.{room-enough, test-refused, test-answered, passed-on}
-use Rattle.form.proofs.Pairless.{room-short, graph-unread, graph-paired, graph-pairless}
 use Rattle.form.proofs.Stored.{stored-bytes}
 use Rattle.price.specs.declared.Bill.{Bill}
 use Rattle.price.specs.declared.Parts as declared
@@ -22,6 +21,7 @@ use Rattle.price.specs.Price.{partsCheck, Priced, pricedGraph, price, ro
 use Rattle.price.proofs.Bounds.{edges-price-few, buffers-few}
 use Rattle.price.proofs.Calls.{billed-priced}
 use Rattle.price.proofs.Faults.{then-goes, then-stops}
+use Rattle.price.proofs.Pairless.{room-short, graph-unread, graph-paired, graph-pairless}
 use Rattle.price.proofs.price_drawing.Statement.{statement}
 use Rattle.price.proofs.price_drawing.Tie as tie
 
