@@ -66,7 +66,7 @@ void watch(const char *path) {
 }
 
 static bool is_refusal(int code) {
-    return code >= OHG_NO_HEADER && (code <= OHG_LABELS_DIFFER || code == OHG_OTHER_FORM || code == OHG_KEPT_CYCLE);
+    return code >= OHG_NO_HEADER && (code <= OHG_LABELS_DIFFER || code >= OHG_OTHER_FORM);
 }
 
 void print_counts(uint64_t counts[FUNCTIONS][CODES]) {
