@@ -48,7 +48,7 @@ const WITHOUT_ROOM: [(&str, Inputs, Times); 12] = [
     ("ohg_add_edge_target", TO_ADD_TO, add_edge_target),
 ];
 
-const IN_ROOM: [(&str, Inputs, TimesInRoom); 17] = [
+const IN_ROOM: [(&str, Inputs, TimesInRoom); 18] = [
     ("ohg_delete_edges", RANDOM, delete_edges),
     ("ohg_delete_nodes", RANDOM, delete_nodes),
     ("ohg_quotient", JOINED, quotient),
