@@ -136,30 +136,29 @@ impl Picture {
         Ok(())
     }
 
-    /// The arrows of a block are at its sides, by their ports.
+    /// The arrows of a block are at its sides, by their ports. A node may stand in a list twice; the loop goes by its first
+    /// entry.
     fn arrows_of(&self, edge: &Edge, id: EdgeId, f: &mut Formatter) -> fmt::Result {
-        let side = |column, port, side| match edge.label {
+        let at = |column, port, side| match edge.label {
             SPIDER => format!("e{}", id.0),
             _ => format!("e{}:{column}{port}:{side}", id.0),
         };
-        let enters = |&node| self.arcs.contains(&(Vertex::Node(node), Vertex::Edge(id)));
-        let leaves = |&node| self.arcs.contains(&(Vertex::Edge(id), Vertex::Node(node)));
-        // A node may stand in a list twice; the loop goes by its first entry.
-        let (enters, leaves) = (
-            edge.sources.iter().position(enters),
-            edge.targets.iter().position(leaves),
-        );
-        let pen = |is_thick| match is_thick {
+        let pen = |thick| match thick {
             true => format!(" [penwidth={THICK}]"),
             false => String::new(),
         };
+        let vertex = Vertex::Edge(id);
+        let enters = |&node| self.arcs.contains(&(Vertex::Node(node), vertex));
+        let entered = edge.sources.iter().position(enters);
         for (port, node) in edge.sources.iter().enumerate() {
-            let (side, pen) = (side("s", port, "w"), pen(enters == Some(port)));
-            writeln!(f, "  n{} -> {side}{pen}", node.0)?;
+            let (at, pen) = (at("s", port, "w"), pen(entered == Some(port)));
+            writeln!(f, "  n{} -> {at}{pen}", node.0)?;
         }
+        let leaves = |&node| self.arcs.contains(&(vertex, Vertex::Node(node)));
+        let left = edge.targets.iter().position(leaves);
         for (port, node) in edge.targets.iter().enumerate() {
-            let (side, pen) = (side("t", port, "e"), pen(leaves == Some(port)));
-            writeln!(f, "  {side} -> n{}{pen}", node.0)?;
+            let (at, pen) = (at("t", port, "e"), pen(left == Some(port)));
+            writeln!(f, "  {at} -> n{}{pen}", node.0)?;
         }
         Ok(())
     }
