@@ -63,7 +63,7 @@ impl Picture {
 
     /// An ellipse for each wire, with id and label. One that gets a buffer is filled and says why.
     fn wires(&self, f: &mut Formatter) -> fmt::Result {
-        let shape = "shape=ellipse width=0.3 height=0.3 margin=0 fontsize=11";
+        let shape = "shape=ellipse width=0.3 height=0.3 margin=0.02 fontsize=12";
         writeln!(f, "  node [{shape} fillcolor=\"#ffb347\"]")?;
         for (label, id) in self.drawing.nodes.iter().zip(0..) {
             let border = self.border(Vertex::Node(NodeId(id)));
@@ -85,7 +85,7 @@ impl Picture {
 
     /// A box for each block, with its name and its ports, and a small circle for each spider.
     fn blocks(&self, f: &mut Formatter) -> fmt::Result {
-        writeln!(f, "  node [shape=plain fontsize=13]")?;
+        writeln!(f, "  node [shape=plain fontsize=14]")?;
         for (edge, id) in self.drawing.edges.iter().zip(0..) {
             let border = self.border(Vertex::Edge(EdgeId(id)));
             if edge.label == SPIDER {
@@ -111,7 +111,7 @@ impl Picture {
                 let cell = |entry| format!("<g{entry}> {name} {entry}");
                 let cells: Vec<String> = (0..count).map(cell).collect();
                 let label = cells.join("|");
-                let shape = format!("shape=record fontsize=11 margin=0.08 label=\"{label}\"");
+                let shape = format!("shape=record fontsize=12 margin=0.08 label=\"{label}\"");
                 writeln!(f, "  {{ rank={rank} {name}s [{shape}] }}")?;
             }
         }
@@ -188,10 +188,11 @@ impl Picture {
 
 impl fmt::Display for Picture {
     fn fmt(&self, f: &mut Formatter) -> fmt::Result {
-        let legend = "fontname=Helvetica fontsize=11 labeljust=l";
+        let font = "fontname=\"Arial,sans-serif\"";
         writeln!(f, "digraph drawing {{")?;
-        writeln!(f, "  graph [rankdir=LR nodesep=0.2 ranksep=0.25 {legend}]")?;
-        writeln!(f, "  node [fontname=Helvetica]")?;
+        writeln!(f, "  graph [rankdir=LR nodesep=0.2 ranksep=0.22]")?;
+        writeln!(f, "  graph [labeljust=l fontsize=12 {font}]")?;
+        writeln!(f, "  node [{font}]")?;
         writeln!(f, "  edge [arrowsize=0.6]")?;
         self.wires(f)?;
         self.blocks(f)?;
