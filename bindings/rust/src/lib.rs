@@ -40,6 +40,22 @@ use std::{array, fmt};
 /// The edge label that says spider; every other value is an operation.
 pub const SPIDER: u32 = u32::MAX;
 
+/// The names of the kinds 1 to 12 in the catalogue of parts. An operation's label is its kind.
+pub const KINDS: [&str; 12] = [
+    "receive",
+    "transmit",
+    "parser",
+    "hash",
+    "server table",
+    "pick",
+    "rewriter",
+    "probe",
+    "counter",
+    "splitter",
+    "joiner",
+    "flow store",
+];
+
 /// The bytes of a node's reason, in both versions of the stored form: `OHG_REASON_BYTES`.
 const REASON_BYTES: usize = 16;
 

@@ -21,29 +21,13 @@ use crate::lent::{self, answered};
 use crate::{number, Graph, Refused};
 use std::array;
 
-/// The names of the kinds 1 to 12.
-pub const NAMES: [&str; 12] = [
-    "receive",
-    "transmit",
-    "parser",
-    "hash",
-    "server table",
-    "pick",
-    "rewriter",
-    "probe",
-    "counter",
-    "splitter",
-    "joiner",
-    "flow store",
-];
-
 /// The bytes of an answer: `OHG_PRICE_BYTES`.
 const PRICE_BYTES: usize = 60;
 
 /// What a drawing is made of and costs.
 #[derive(Debug, Clone, Copy, PartialEq, Eq, Hash)]
 pub struct Bill {
-    /// How many edges are of each kind, in the order of [`NAMES`]. With the spiders they are all edges.
+    /// How many edges are of each kind, in the order of [`KINDS`](crate::KINDS). With the spiders they are all edges.
     pub counts: [u32; 12],
     /// How many loop buffers are needed: as many as the choice has nodes.
     pub buffers: u32,

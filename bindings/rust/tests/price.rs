@@ -1,8 +1,7 @@
 //! The priced parts list: the feature `price`.
 #![cfg(feature = "price")]
 
-use ohg::price::NAMES;
-use ohg::{Graph, NodeId, Refusal, SPIDER};
+use ohg::{Graph, NodeId, Refusal, KINDS, SPIDER};
 
 /// Sources, targets and price of each kind.
 const CATALOGUE: [(usize, usize, u64); 12] = [
@@ -50,7 +49,7 @@ fn the_bill_of_the_packet_path() {
 
 #[test]
 fn each_kind_by_itself_in_both_versions() {
-    assert_eq!(NAMES.len(), CATALOGUE.len());
+    assert_eq!(KINDS.len(), CATALOGUE.len());
     for (at, (sources, targets, price)) in CATALOGUE.into_iter().enumerate() {
         let label = at as u32 + 1;
         for nodes in [2, 2049] {

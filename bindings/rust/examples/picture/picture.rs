@@ -1,25 +1,9 @@
 //! A drawing in the language of Graphviz, from left to right.
 
 use crate::drawing::{Drawing, Edge};
-use ohg::{EdgeId, Graph, NodeId, Reason, Refused, Vertex, SPIDER};
+use ohg::{EdgeId, Graph, NodeId, Reason, Refused, Vertex, KINDS, SPIDER};
 use std::collections::HashSet;
 use std::fmt::{self, Formatter};
-
-/// The names of the kinds 1 to 12, as T-07's catalogue in document 02 has them. A block's label is its kind.
-const KINDS: [&str; 12] = [
-    "receive",
-    "transmit",
-    "parser",
-    "hash",
-    "server table",
-    "pick",
-    "rewriter",
-    "probe",
-    "counter",
-    "splitter",
-    "joiner",
-    "flow store",
-];
 
 /// How wide the loop is drawn; other lines have 1.
 const THICK: u32 = 3;
