@@ -4,3 +4,5 @@ pub mod RefusedBy
 pub mod Parts
 pub mod Caller
 pub mod ByHand
+pub mod Range
+pub mod Totals

@@ -1,5 +1,7 @@
 // The priced parts list of a drawing, a library of its own above the port: how many edges are of each kind of the catalogue, how many loop buffers the choice asks for,
 // and the exact total in hundredths of a cent.
+pub mod range;
+
 ghost use mathlib.Core.Path.{_≡_};
 ghost use Prim.Native.Nat.{_+_, _*_, _-_, _<_, _≤_};
 ghost use lib.ListN.{length, getD};
