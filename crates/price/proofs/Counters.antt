@@ -33,7 +33,7 @@ same-counts c d from zero h = refl
 same-counts c d from (suc n) h =
     λ i. h from (le-refl from) i ∷ same-counts c d (suc from) n (λ k l. h k (omega arith)) i
 
-raise : (c : ℕ → ℕ) (label from i n : ℕ) → label ≡ from + i → i < n
+pub raise : (c : ℕ → ℕ) (label from i n : ℕ) → label ≡ from + i → i < n
     → map (λ k. c k + bump (eqb label k) 0) (range from n) ≡ set (map c (range from n)) i (getD (map c (range from n)) i 0 + 1)
 raise c label from i zero e l = absurd (not-suc-le-zero l)
 raise c label from zero (suc n) e l = λ j. first j ∷ same-counts (λ k. c k + bump (eqb label k) 0) c (suc from) n rest j

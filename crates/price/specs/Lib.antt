@@ -6,3 +6,4 @@ pub mod Caller
 pub mod ByHand
 pub mod Range
 pub mod Totals
+pub mod Slices

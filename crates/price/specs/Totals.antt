@@ -55,10 +55,10 @@ sums (x ∷ xs) (y ∷ ys) = (x + y) ∷ sums xs ys
 
 -- one drawing more that was refused by this number
 abbrev pub refusedOnce : Totals → ℕ → Totals
-refusedOnce t no = record {
+refusedOnce t n = record {
   drawings = t .drawings + 1;
   priced = t .priced;
-  refusals = set (t .refusals) (no - 1) (getD (t .refusals) (no - 1) 0 + 1);
+  refusals = set (t .refusals) (n - 1) (getD (t .refusals) (n - 1) 0 + 1);
   parts = t .parts;
   buffers = t .buffers;
   sum = t .sum;

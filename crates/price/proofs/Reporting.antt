@@ -1,0 +1,54 @@
+-- The report's bytes, put one part after the other.
+-- Assumes nothing.
+use mathlib.Core.List.{List, [], _∷_, _++_}
+use mathlib.Core.Path.{_≡_, refl, sym, ap, _∙_}
+use Prim.Native.Nat.{ℕ, _+_, _*_, _≤_, _<_}
+use native.Mathlib.Numerals.{add-one}
+use native.Mathlib.Omega.{arith}
+use lib.ListN.{length, getD, take}
+use lib.Seq.{sets, take-all, take-suc, length-take-le}
+use Rattle.le.specs.Le.{bytes, row}
+use Rattle.le.specs.Rows.{rowAt, puts}
+use Rattle.le.proofs.Numbers.{length-row}
+use Rattle.le.proofs.Rows.{puts-append}
+use Rattle.price.proofs.Putting.{put-twice}
+
+module _ (at : ℕ) where
+  -- one number more
+  pub row-next : (old out new ns : List ℕ) (k : ℕ) → k < length ns → out ≡ puts old (rowAt at 4) 0 (take k ns) → new ≡ puts out (rowAt at 4) k (getD ns k 0 ∷ [])
+      → new ≡ puts old (rowAt at 4) 0 (take (k + 1) ns)
+  row-next old out new ns k l is next =
+      let r = rowAt at 4 in
+      let n : k ≡ 0 + length (take k ns) = omega (arith, length-take-le k ns (omega arith)) in
+      let more : take k ns ++ (getD ns k 0 ∷ []) ≡ take (k + 1) ns = rw add-one (sym (take-suc ns k 0 l)) in
+      next ∙ (λ i. puts (is i) r (n i) (getD ns k 0 ∷ [])) ∙ puts-append old r 0 (take k ns) (getD ns k 0 ∷ []) ∙ ap (puts old r 0) more
+
+  -- all of them
+  pub row-put : (old out ns : List ℕ) (k : ℕ) → length ns ≤ k → out ≡ puts old (rowAt at 4) 0 (take k ns) → out ≡ sets old at (row 4 ns)
+  unfolding puts
+  row-put old out ns k l is =
+      let place : at + 0 * 4 ≡ at = omega arith in
+      is ∙ (λ i. sets old (place i) (row 4 (take-all k ns l i)))
+
+-- the counts in front
+pub totals-put : (old a b c d refusals parts : List ℕ) (priced buffers : ℕ) → length refusals ≡ 17 → length parts ≡ 12
+    → a ≡ sets old 0 (bytes 4 priced) → b ≡ sets a 4 (row 4 refusals) → c ≡ sets b 72 (row 4 parts) → d ≡ sets c 120 (bytes 4 buffers)
+    → d ≡ sets old 0 (bytes 4 priced ++ (row 4 refusals ++ (row 4 parts ++ bytes 4 buffers)))
+totals-put old a b c d refusals parts priced buffers seventeen twelve p q r s =
+    let l₁ : length (row 4 refusals) ≡ 68 = length-row 4 refusals ∙ ap (λ (n : ℕ). n * 4) seventeen in
+    let l₂ : length (row 4 parts) ≡ 48 = length-row 4 parts ∙ ap (λ (n : ℕ). n * 4) twelve in
+    put-twice old a d (bytes 4 priced) (row 4 refusals ++ (row 4 parts ++ bytes 4 buffers)) 0 4 refl p
+    (put-twice a b d (row 4 refusals) (row 4 parts ++ bytes 4 buffers) 4 68 l₁ q
+    (put-twice b c d (row 4 parts) (bytes 4 buffers) 72 48 l₂ r s))
+
+-- the amounts behind them
+pub amounts-put : (old a b c d : List ℕ) (sum index whole rest : ℕ) → a ≡ sets old 124 (bytes 8 sum) → b ≡ sets a 132 (bytes 4 index) → c ≡ sets b 136 (bytes 8 whole) → d ≡ sets c 144 (bytes 4 rest)
+    → d ≡ sets old 124 (bytes 8 sum ++ (bytes 4 index ++ (bytes 8 whole ++ bytes 4 rest)))
+amounts-put old a b c d sum index whole rest p q r s =
+    put-twice old a d (bytes 8 sum) (bytes 4 index ++ (bytes 8 whole ++ bytes 4 rest)) 124 8 refl p
+    (put-twice a b d (bytes 4 index) (bytes 8 whole ++ bytes 4 rest) 132 4 refl q
+    (put-twice b c d (bytes 8 whole) (bytes 4 rest) 136 8 refl r s))
+
+-- and both
+pub report-put : (old a b front amounts : List ℕ) → length front ≡ 124 → a ≡ sets old 0 front → b ≡ sets a 124 amounts → b ≡ sets old 0 (front ++ amounts)
+report-put old a b front amounts long p q = put-twice old a b front amounts 0 124 long p q
