@@ -12,3 +12,6 @@ pub mod Calls
 pub mod Ranges
 pub mod Caller
 pub mod ByHand
+pub mod Slices
+pub mod Adding
+pub mod Reporting

@@ -5,12 +5,14 @@ use mathlib.Core.Path.{_≡_, refl, sym, ap, _∙_}
 use Prim.Native.Nat.{ℕ, _+_, _*_, _≤_, _<_}
 use native.Mathlib.Numerals.{add-one}
 use native.Mathlib.Omega.{arith}
-use lib.ListN.{length, getD, take}
+use lib.ListN.{length, getD, take, length-append}
 use lib.Seq.{sets, take-all, take-suc, length-take-le}
 use Rattle.le.specs.Le.{bytes, row}
 use Rattle.le.specs.Rows.{rowAt, puts}
 use Rattle.le.proofs.Numbers.{length-row}
 use Rattle.le.proofs.Rows.{puts-append}
+use Rattle.price.specs.Totals.{frontOf}
+use Rattle.price.specs.declared.range.Totals.{Totals}
 use Rattle.price.proofs.Putting.{put-twice}
 
 module _ (at : ℕ) where
@@ -52,3 +54,7 @@ amounts-put old a b c d sum index whole rest p q r s =
 -- and both
 pub report-put : (old a b front amounts : List ℕ) → length front ≡ 124 → a ≡ sets old 0 front → b ≡ sets a 124 amounts → b ≡ sets old 0 (front ++ amounts)
 report-put old a b front amounts long p q = put-twice old a b front amounts 0 124 long p q
+
+pub front-long : (t : Totals) → length (t .refusals) ≡ 17 → length (t .parts) ≡ 12 → length (frontOf t) ≡ 124
+front-long t seventeen twelve =
+    omega (arith, length-append (row 4 (t .refusals)) (row 4 (t .parts) ++ bytes 4 (t .buffers)), length-append (row 4 (t .parts)) (bytes 4 (t .buffers)), length-row 4 (t .refusals), length-row 4 (t .parts))

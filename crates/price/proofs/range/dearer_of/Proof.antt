@@ -28,8 +28,7 @@ returns-3 c =
     let a = c .before .before .before .before .args in
     let g = c .before .before .d .given in
     let m = g .0 .1 .0 in
-    g .1
-    ∙ sym (ap (λ (d : Dearest). dearestIn (dearer (dearestMeant d) (a .index) (a .total))) (g .1)
+    sym (ap (λ (d : Dearest). dearestIn (dearer (dearestMeant d) (a .index) (a .total))) (g .1)
     ∙ ap (λ (b : Bool). dearestIn (cond b (at (a .index) (a .total)) (at (g .0 .0) m))) (le-ltb m (a .total) (c .if1 .left)))
 
 pub dearer-of-spec : {M : Type 1} → statement M
