@@ -64,7 +64,7 @@ module _ (a : Answer Priced) (r : Pricing) (is : r ≡ pricing a) where
 abbrev pub written : ℕ → Priced → Answer Result
 written room p = fit room (priceBytes p) >>= λ list. answered (writing list 0)
 
-in-room : {A B : Type 0} (needed lent : ℕ) (a : Answer A) (next : A → Answer B) → inWorkRoom needed lent (a >>= next) ≡ (inWorkRoom needed lent a >>= next)
+pub in-room : {A B : Type 0} (needed lent : ℕ) (a : Answer A) (next : A → Answer B) → inWorkRoom needed lent (a >>= next) ≡ (inWorkRoom needed lent a >>= next)
 unfolding inWorkRoom _else_ _>>_ _>>=_
 in-room needed lent a next = go (leb needed lent)
   where

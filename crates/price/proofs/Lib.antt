@@ -15,3 +15,5 @@ pub mod ByHand
 pub mod Slices
 pub mod Adding
 pub mod Reporting
+pub mod Along
+pub mod Called

@@ -1,6 +1,9 @@
--- Which refusals the priced parts list can give. Assumes nothing.
+-- Which refusals the priced parts list and the range can give. Assumes nothing.
 use mathlib.Core.List.{List, [], _∷_}
 use Prim.Native.Nat.{ℕ}
 
 abbrev pub priceRefusals : List ℕ
 priceRefusals = 1 ∷ 2 ∷ 3 ∷ 4 ∷ 5 ∷ 6 ∷ 13 ∷ 8 ∷ 14 ∷ 15 ∷ 10 ∷ []
+
+abbrev pub rangeRefusals : List ℕ
+rangeRefusals = 17 ∷ 10 ∷ []

@@ -124,7 +124,11 @@ nothing = record {
   dearest = dearest.Nothing;
 }
 
--- what the range answers: the totals, or a refusal with totals of nothing
+-- a refusal with totals of nothing
+abbrev pub notRanged : Refusal → Ranging
+notRanged x = record { step = step.Refused x; totals = nothing }
+
+-- what the range answers
 abbrev pub ranging : Answer (List (List ℕ)) → Ranging
-ranging (refused r) = record { step = step.Refused (refusalOf r); totals = nothing }
+ranging (refused r) = notRanged (refusalOf r)
 ranging (answered forms) = record { step = step.Number 0; totals = totalsOf (map price forms) }

@@ -14,7 +14,7 @@ ghost use Rattle.price.specs.Price.{roomPrice};
 ghost use Rattle.price.specs.Parts.{Countable};
 ghost use Rattle.price.specs.Range as report;
 ghost use Rattle.price.specs.Range.{firstLength, drawingsIn, mostDrawings, dearer, indexOf, priceRangeCall};
-ghost use Rattle.price.specs.Totals.{formsOf, dearestIn, dearestMeant, totalsOf, sums, refusedOnce, pricedOnce, added, Listed, Upto, meanOf, frontOf, amountsOf, nothing, ranging};
+ghost use Rattle.price.specs.Totals.{formsOf, dearestIn, dearestMeant, totalsOf, sums, refusedOnce, pricedOnce, added, Listed, Upto, meanOf, frontOf, amountsOf, nothing, notRanged, ranging};
 use crate::Bill;
 use crate::price_drawing;
 use crate::put8;
@@ -215,7 +215,7 @@ fn price_drawings(src: &[u8], room: &mut [u8]) -> Totals
 
 // A refusal, with totals of nothing.
 fn not_ranged(x: Refusal) -> Ranging
-    ensures { λ r. ⌜ (r .step ≡ Step.Refused x) × (r .totals ≡ nothing) ⌝ }
+    ensures { λ r. ⌜ r ≡ notRanged x ⌝ }
 {
     let totals = none();
     Ranging {
