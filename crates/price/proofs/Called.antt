@@ -106,7 +106,7 @@ module _ (b : List ℕ) (room lent : ℕ) where
         let m : room < length (reportBytes (reportOf (map price forms))) = omega (arith, report-long (map price forms)) in
         whole ∙ goes (reported room) e ∙ rw (lt-leb (length (reportBytes (reportOf (map price forms)))) room m)
 
-    range-written : 148 ≤ room → priceRangeCall b room lent ≡ answered (writing (reportBytes (reportOf (map price forms))) 0)
+    pub range-written : 148 ≤ room → priceRangeCall b room lent ≡ answered (writing (reportBytes (reportOf (map price forms))) 0)
     unfolding fit _else_ _>>_ _>>=_
     range-written l =
         let m : length (reportBytes (reportOf (map price forms))) ≤ room = omega (arith, report-long (map price forms)) in

@@ -46,14 +46,14 @@ module _ (p : Priced) (twelve : length (p .counts) ≡ 12) (small : Small p) (re
   regroup : priceBytes p ++ rest ≡ row 4 (p .counts) ++ (bytes 4 (p .buffers) ++ (bytes 8 (p .total) ++ rest))
   regroup = append-assoc (row 4 (p .counts)) (bytes 4 (p .buffers) ++ bytes 8 (p .total)) rest
 
-  counts-back : countsIn (priceBytes p ++ rest) ≡ p .counts
+  pub counts-back : countsIn (priceBytes p ++ rest) ≡ p .counts
   counts-back =
       (λ i. numbers 4 (sym twelve i) (regroup i)) ∙ numbers-row 4 (p .counts) _ (below-widen (p .counts) (omega arith) (small .counts))
 
   behind : drop 48 (priceBytes p ++ rest) ≡ bytes 4 (p .buffers) ++ (bytes 8 (p .total) ++ rest)
   behind = ap (drop 48) regroup ∙ drop-at (row 4 (p .counts)) _ 48 long
 
-  buffers-back : buffersIn (priceBytes p ++ rest) ≡ p .buffers
+  pub buffers-back : buffersIn (priceBytes p ++ rest) ≡ p .buffers
   buffers-back = ap (λ (l : List ℕ). number (take 4 l)) behind ∙ number-bytes 4 (p .buffers) (omega (arith, small .buffers))
 
   last : drop 52 (priceBytes p ++ rest) ≡ bytes 8 (p .total) ++ rest
@@ -62,7 +62,7 @@ module _ (p : Priced) (twelve : length (p .counts) ≡ 12) (small : Small p) (re
       ap (drop 52) (regroup ∙ sym (append-assoc (row 4 (p .counts)) (bytes 4 (p .buffers)) (bytes 8 (p .total) ++ rest)))
       ∙ drop-at (row 4 (p .counts) ++ bytes 4 (p .buffers)) _ 52 l
 
-  total-back : totalIn (priceBytes p ++ rest) ≡ p .total
+  pub total-back : totalIn (priceBytes p ++ rest) ≡ p .total
   total-back = ap (λ (l : List ℕ). number (take 8 l)) last ∙ number-bytes 8 (p .total) (omega (arith, small .total))
 
 -- ---- each edge is in order

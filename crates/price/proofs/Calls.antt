@@ -90,7 +90,7 @@ module _ (b : List ℕ) (room lent : ℕ) where
         let m : room < length (priceBytes p) = omega (arith, long) in
         whole ∙ goes (written room) e ∙ rw (lt-leb (length (priceBytes p)) room m)
 
-    call-written : 60 ≤ room → priceCall b room lent ≡ answered (writing (priceBytes p) 0)
+    pub call-written : 60 ≤ room → priceCall b room lent ≡ answered (writing (priceBytes p) 0)
     unfolding fit _else_ _>>_ _>>=_
     call-written l =
         let m : length (priceBytes p) ≤ room = omega (arith, long) in

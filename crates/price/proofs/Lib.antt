@@ -17,3 +17,6 @@ pub mod Adding
 pub mod Reporting
 pub mod Along
 pub mod Called
+pub mod Dearests
+pub mod Reports
+pub mod RangeCaller

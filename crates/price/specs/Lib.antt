@@ -7,3 +7,5 @@ pub mod ByHand
 pub mod Range
 pub mod Totals
 pub mod Slices
+pub mod Dearests
+pub mod ToldRange
