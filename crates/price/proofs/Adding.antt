@@ -1,23 +1,21 @@
 -- The totals of a range, one drawing after the other.
 -- Assumes nothing.
 use mathlib.Core.Path.{_≡_, refl, sym, ap, _∙_, subst}
-use mathlib.Core.Bool.{Bool, true, false, cond}
+use mathlib.Core.Bool.{Bool, true, false}
 use mathlib.Core.List.{List, [], _∷_, _++_, map}
-use mathlib.Core.Logic.{_⊎_, inl, inr}
-use Prim.Native.Nat.{ℕ, zero, suc, _+_, _-_, _*_, _/_, _%_, _≤_, _<_, zero-le}
+use Prim.Native.Nat.{ℕ, zero, suc, _+_, _-_, _*_, _≤_, _<_, zero-le}
 use native.Mathlib.Nat.{le-refl, lt-irrefl, not-suc-le-zero, suc-ne-zero, zero-add, add-zero}
 use native.Mathlib.Omega.{arith}
-use lib.Dec.{eqb, leb}
-use lib.ListN.{length, getD, set, take, length-append, length-set, length-map}
+use lib.Dec.{leb}
+use lib.ListN.{length, getD, set, length-append, length-set}
 use lib.Seq.{getD-set-same, getD-set-other, ext-getD}
 use borrow.Author.Count.{below-more}
 use borrow.Author.Tests.{leb-true}
 use Rattle.le.specs.Le.{Below}
-use Rattle.graph.specs.Answer.{Answer, refused, answered, Refusal, Result, reply, _else_, _>>_}
-use Rattle.graph.specs.Calls.{inWorkRoom}
+use Rattle.graph.specs.Answer.{Answer, refused, answered, Refusal, reply}
 use Rattle.graph.specs.Lists.{range}
-use Rattle.graph.proofs.Refuses.{RefusedBy, member-passes}
-use Rattle.graph.proofs.Steps.{never, same-answer, same-refusal}
+use Rattle.graph.proofs.Refuses.{member-passes}
+use Rattle.graph.proofs.Verdicts.{in-room}
 use Rattle.choice.specs.Arcs.{bump, howMany}
 use Rattle.choice.proofs.Degrees.{howMany-length}
 use Rattle.price.specs.Parts.{billOf}
@@ -25,8 +23,7 @@ use Rattle.price.specs.Price.{catalogue, bufferPrice, Priced, price, roo
 use Rattle.price.specs.Promises.{cost, Small}
 use Rattle.price.specs.Range.{sumOf, isPriced, refusedBy, Dearest, none, at, dearer, dearerOf, dearestOf, nthCount, refusalNumbers}
 use Rattle.price.specs.RefusedBy.{priceRefusals}
-use Rattle.price.specs.Totals.{dearestIn, dearestMeant, totalsOf, sums, refusedOnce, pricedOnce, added, Listed, Upto, nothing}
-use Rattle.price.specs.declared.range.Totals.{Totals}
+use Rattle.price.specs.Totals.{dearestIn, dearestMeant, totalsOf, sums, added, Listed, Upto, nothing}
 use Rattle.price.proofs.Bounds.{getD-below}
 use Rattle.price.proofs.Calls.{call-refused}
 use Rattle.price.proofs.Counters.{raise}
@@ -90,13 +87,9 @@ pub record Good (a : Answer Priced) : Type 0 where
   pub small : (p : Priced) → a ≡ answered p → Small p
 
 -- where the room is lent, pricing refuses by these numbers
-enough : (b : List ℕ) → inWorkRoom roomPrice roomPrice (price b) ≡ price b
-unfolding inWorkRoom _else_ _>>_
-enough b = refl
-
 pub price-number : (b : List ℕ) (r : Refusal) → price b ≡ refused r → (1 ≤ r .no) × (r .no ≤ 17)
 price-number b r e =
-    let h = price-by b 60 roomPrice .each r (call-refused b 60 roomPrice r (enough b ∙ e)) in
+    let h = price-by b 60 roomPrice .each r (call-refused b 60 roomPrice r (in-room roomPrice roomPrice (price b) (le-refl roomPrice) ∙ e)) in
     (leb-true _ _ (member-passes (leb 1) priceRefusals (r .no) refl h), leb-true _ _ (member-passes (λ n. leb n 17) priceRefusals (r .no) refl h))
 
 pub price-good : (b : List ℕ) → Below 256 b → Good (price b)

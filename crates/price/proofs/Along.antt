@@ -5,13 +5,10 @@ use mathlib.Core.Path.{_≡_, refl, sym, ap, _∙_, subst}
 use Prim.Native.Nat.{ℕ, zero, suc, _+_, _≤_, _<_}
 use native.Mathlib.Numerals.{add-one}
 use native.Mathlib.Omega.{arith}
-use lib.Dec.{leb}
 use lib.ListN.{length, getD, take, drop, length-map}
 use lib.Seq.{take-all, take-suc, length-take-le}
-use borrow.Author.Tests.{le-leb}
 use Rattle.le.specs.Le.{Below, numberAt}
-use Rattle.graph.specs.Answer.{Answer, answered, reply, _else_, _>>_}
-use Rattle.graph.specs.Calls.{inWorkRoom}
+use Rattle.graph.specs.Answer.{Answer, answered, reply}
 use Rattle.price.specs.Price.{Priced, price}
 use Rattle.price.specs.Range.{drawingsIn, mostDrawings}
 use Rattle.price.specs.Slices.{SliceOf}
@@ -19,11 +16,6 @@ use Rattle.price.specs.Totals.{formsOf, totalsOf, added, Upto, nothing}
 use Rattle.price.specs.declared.range.Totals.{Totals}
 use Rattle.price.proofs.Adding.{Good, price-good, prices-good, added-next, nothing-totals, totals-upto}
 use Rattle.price.proofs.Slices.{Clean, forms-clean, clean-take, drawings-back, Walked, Standing, none-walked, all-walked, standing}
-
--- where the room is lent it decides nothing
-pub room-lent : {A : Type 0} (needed lent : ℕ) (a : Answer A) → needed ≤ lent → inWorkRoom needed lent a ≡ a
-unfolding inWorkRoom _else_ _>>_
-room-lent needed lent a l = rw (le-leb needed lent l)
 
 -- a slice in order is its drawings
 pub forms-of : (b : List ℕ) (forms : List (List ℕ)) → drawingsIn mostDrawings b ≡ answered forms → formsOf b ≡ forms

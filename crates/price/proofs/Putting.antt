@@ -13,19 +13,22 @@ use Rattle.le.proofs.Numbers.{length-row}
 use Rattle.le.proofs.Rows.{puts-append}
 use Rattle.le.proofs.Stores.{sets-append}
 
--- one count more
-pub counts-next : (old out new counts : List ℕ) (k : ℕ) → k < length counts → out ≡ puts old (rowAt 0 4) 0 (take k counts) → new ≡ puts out (rowAt 0 4) k (getD counts k 0 ∷ [])
-    → new ≡ puts old (rowAt 0 4) 0 (take (k + 1) counts)
-counts-next old out new counts k l is next =
-    let r = rowAt 0 4 in
-    let n : k ≡ 0 + length (take k counts) = omega (arith, length-take-le k counts (omega arith)) in
-    let more : take k counts ++ (getD counts k 0 ∷ []) ≡ take (k + 1) counts = rw add-one (sym (take-suc counts k 0 l)) in
-    next ∙ (λ i. puts (is i) r (n i) (getD counts k 0 ∷ [])) ∙ puts-append old r 0 (take k counts) (getD counts k 0 ∷ []) ∙ ap (puts old r 0) more
+module _ (at : ℕ) where
+  -- one number more
+  pub row-next : (old out new ns : List ℕ) (k : ℕ) → k < length ns → out ≡ puts old (rowAt at 4) 0 (take k ns) → new ≡ puts out (rowAt at 4) k (getD ns k 0 ∷ [])
+      → new ≡ puts old (rowAt at 4) 0 (take (k + 1) ns)
+  row-next old out new ns k l is next =
+      let r = rowAt at 4 in
+      let n : k ≡ 0 + length (take k ns) = omega (arith, length-take-le k ns (omega arith)) in
+      let more : take k ns ++ (getD ns k 0 ∷ []) ≡ take (k + 1) ns = rw add-one (sym (take-suc ns k 0 l)) in
+      next ∙ (λ i. puts (is i) r (n i) (getD ns k 0 ∷ [])) ∙ puts-append old r 0 (take k ns) (getD ns k 0 ∷ []) ∙ ap (puts old r 0) more
 
--- all of them
-pub counts-put : (old out counts : List ℕ) (k : ℕ) → length counts ≤ k → out ≡ puts old (rowAt 0 4) 0 (take k counts) → out ≡ sets old 0 (row 4 counts)
-unfolding puts
-counts-put old out counts k l is = is ∙ ap (λ (xs : List ℕ). sets old 0 (row 4 xs)) (take-all k counts l)
+  -- all of them
+  pub row-put : (old out ns : List ℕ) (k : ℕ) → length ns ≤ k → out ≡ puts old (rowAt at 4) 0 (take k ns) → out ≡ sets old at (row 4 ns)
+  unfolding puts
+  row-put old out ns k l is =
+      let place : at + 0 * 4 ≡ at = omega arith in
+      is ∙ (λ i. sets old (place i) (row 4 (take-all k ns l i)))
 
 -- eight bytes are twice four
 one : (v : ℕ) → v % 4294967296 / 256 ≡ v / 256 % 16777216

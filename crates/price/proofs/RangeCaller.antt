@@ -8,12 +8,13 @@ use Prim.Native.Nat.{ℕ, suc, _+_, _*_, _/_, _%_, _≤_, _<_}
 use native.Mathlib.Omega.{arith}
 use lib.Dec.{eqb, leb}
 use lib.ListN.{length, drop, length-map}
-use borrow.Author.Tests.{eq-eqb, ne-eqb, lt-leb, leb-true, leb-false}
+use borrow.Author.Tests.{eq-eqb, ne-eqb, leb-true, leb-false}
 use Rattle.le.specs.Le.{Below}
-use Rattle.graph.specs.Answer.{Refusal, Answer, refused, answered, Result, refusal, writing, laid, _else_, _>>=_, _>>_}
+use Rattle.graph.specs.Answer.{Refusal, Answer, refused, answered, Result, refusal, writing, laid}
 use Rattle.graph.specs.Calls.{inWorkRoom}
 use Rattle.graph.specs.Lists.{range}
 use Rattle.graph.proofs.Steps.{never, same-refusal}
+use Rattle.graph.proofs.Verdicts.{in-room, no-room}
 use Rattle.choice.specs.Arcs.{bump, howMany}
 use Rattle.packing.specs.Packed.{packed, Returns, Ranged}
 use Rattle.packing.specs.Unpacked.{codeIn, aIn}
@@ -23,11 +24,10 @@ use Rattle.price.specs.Caller.{countsIn, buffersIn, totalIn}
 use Rattle.price.specs.Dearests.{FirstDearest}
 use Rattle.price.specs.Price.{catalogue, bufferPrice, Priced, price, priceBytes, roomPrice, priceCall}
 use Rattle.price.specs.Promises.{cost, sum}
-use Rattle.price.specs.Range.{mostDrawings, drawingsIn, sumOf, isPriced, refusedBy, Dearest, none, dearerOf, dearestOf, indexOf, nthCount, refusalNumbers, Report, reportOf, reportBytes, priceRangeCall}
+use Rattle.price.specs.Range.{mostDrawings, drawingsIn, sumOf, isPriced, refusedBy, Dearest, none, dearerOf, dearestOf, indexOf, nthCount, refusalNumbers, Report, reportOf, reportBytes, rangeAnswer, priceRangeCall}
 use Rattle.price.specs.Slices.{SliceOf}
 use Rattle.price.specs.ToldRange.{reportIn, Single, toldBy, Singles, told, ToldRange}
 use Rattle.price.proofs.Adding.{AllGood, prices-good, price-number}
-use Rattle.price.proofs.Along.{room-lent}
 use Rattle.price.proofs.Called.{report-long, range-call-answer, range-ranged, range-refused, range-short, range-written}
 use Rattle.price.proofs.Caller.{counts-back, buffers-back, total-back}
 use Rattle.price.proofs.Calls.{call-refused, call-written}
@@ -92,7 +92,7 @@ told-plain : (form : List ℕ) → Below 256 form → (s : Single form) → told
 told-plain form clean s = go (price form) refl
   where
     lent : inWorkRoom roomPrice (s .lent) (price form) ≡ price form
-    lent = room-lent roomPrice (s .lent) (price form) (s .enough)
+    lent = in-room roomPrice (s .lent) (price form) (s .enough)
 
     ranged : Ranged (priceCall form (length (s .old)) (s .lent))
     ranged = price-ranged form (length (s .old)) (s .lent)
@@ -160,12 +160,11 @@ range-for-the-caller b clean old new lent r h code =
 
 module _ (b : List ℕ) (room lent : ℕ) where
   pub room-first : lent < roomPrice → priceRangeCall b room lent ≡ refused (refusal 10)
-  unfolding inWorkRoom _else_ _>>_
-  room-first l = rw (lt-leb roomPrice lent l)
+  room-first l = no-room roomPrice lent (rangeAnswer b room) l
 
   module _ (l : roomPrice ≤ lent) where
     worked-so : inWorkRoom roomPrice lent (drawingsIn mostDrawings b) ≡ drawingsIn mostDrawings b
-    worked-so = room-lent roomPrice lent (drawingsIn mostDrawings b) l
+    worked-so = in-room roomPrice lent (drawingsIn mostDrawings b) l
 
     -- where the slice is not drawings, and only there
     pub seventeen-iff : Below 256 b → (priceRangeCall b room lent ≡ refused (refusal 17)) ↔ ((forms : List (List ℕ)) → SliceOf mostDrawings b forms → ⊥)

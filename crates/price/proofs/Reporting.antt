@@ -1,36 +1,16 @@
 -- The report's bytes, put one part after the other.
 -- Assumes nothing.
-use mathlib.Core.List.{List, [], _∷_, _++_}
-use mathlib.Core.Path.{_≡_, refl, sym, ap, _∙_}
-use Prim.Native.Nat.{ℕ, _+_, _*_, _≤_, _<_}
-use native.Mathlib.Numerals.{add-one}
+use mathlib.Core.List.{List, _++_}
+use mathlib.Core.Path.{_≡_, refl, ap, _∙_}
+use Prim.Native.Nat.{ℕ, _*_}
 use native.Mathlib.Omega.{arith}
-use lib.ListN.{length, getD, take, length-append}
-use lib.Seq.{sets, take-all, take-suc, length-take-le}
+use lib.ListN.{length, length-append}
+use lib.Seq.{sets}
 use Rattle.le.specs.Le.{bytes, row}
-use Rattle.le.specs.Rows.{rowAt, puts}
 use Rattle.le.proofs.Numbers.{length-row}
-use Rattle.le.proofs.Rows.{puts-append}
 use Rattle.price.specs.Totals.{frontOf}
 use Rattle.price.specs.declared.range.Totals.{Totals}
 use Rattle.price.proofs.Putting.{put-twice}
-
-module _ (at : ℕ) where
-  -- one number more
-  pub row-next : (old out new ns : List ℕ) (k : ℕ) → k < length ns → out ≡ puts old (rowAt at 4) 0 (take k ns) → new ≡ puts out (rowAt at 4) k (getD ns k 0 ∷ [])
-      → new ≡ puts old (rowAt at 4) 0 (take (k + 1) ns)
-  row-next old out new ns k l is next =
-      let r = rowAt at 4 in
-      let n : k ≡ 0 + length (take k ns) = omega (arith, length-take-le k ns (omega arith)) in
-      let more : take k ns ++ (getD ns k 0 ∷ []) ≡ take (k + 1) ns = rw add-one (sym (take-suc ns k 0 l)) in
-      next ∙ (λ i. puts (is i) r (n i) (getD ns k 0 ∷ [])) ∙ puts-append old r 0 (take k ns) (getD ns k 0 ∷ []) ∙ ap (puts old r 0) more
-
-  -- all of them
-  pub row-put : (old out ns : List ℕ) (k : ℕ) → length ns ≤ k → out ≡ puts old (rowAt at 4) 0 (take k ns) → out ≡ sets old at (row 4 ns)
-  unfolding puts
-  row-put old out ns k l is =
-      let place : at + 0 * 4 ≡ at = omega arith in
-      is ∙ (λ i. sets old (place i) (row 4 (take-all k ns l i)))
 
 -- the counts in front
 pub totals-put : (old a b c d refusals parts : List ℕ) (priced buffers : ℕ) → length refusals ≡ 17 → length parts ≡ 12

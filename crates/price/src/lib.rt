@@ -269,14 +269,14 @@ pub fn price_drawing(src: &[u8], room: &mut [u8]) -> Pricing
     }
 }
 
-// The twelve counts at the front of out.
-fn put_counts(out: &mut [u8], counts: &[u32; 12])
-    requires { ⌜ (48 ≤ length (now out)) × Countable (now counts) ⌝ }
-    ensures { λ _. ⌜ now (out .exit) ≡ sets (now (out .entry)) 0 (row 4 (now (counts .entry))) ⌝ }
+// Numbers of 4 bytes from `at` on.
+fn put_row(out: &mut [u8], at: usize, ns: &[u32])
+    requires { ⌜ at + 4 * length (now ns) ≤ length (now out) ⌝ }
+    ensures { λ _. ⌜ now (out .exit) ≡ sets (now (out .entry)) at (row 4 (now (ns .entry))) ⌝ }
 {
-    let r = Row { at: 0, width: 4 };
-    for k in 0..12 {
-        le::put_number(out, r, k, counts[k] as usize);
+    let r = Row { at, width: 4 };
+    for k in 0..ns.len() {
+        le::put_number(out, r, k, ns[k] as usize);
     }
 }
 
@@ -295,7 +295,7 @@ fn put_bill(out: &mut [u8], bill: Bill)
     ensures { λ _. ⌜ now (out .exit) ≡ sets (now (out .entry)) 0 (bytesOf bill) ⌝ }
 {
     let counts = bill.counts;
-    put_counts(out, &counts);
+    put_row(out, 0, &counts);
     le::put4(out, 48, bill.buffers);
     put8(out, 52, bill.total);
 }

@@ -1,27 +1,25 @@
 // A range of drawings in one slice, each stored form with its length before it: every drawing is priced where it stands, in one work room, and the report has the totals.
 ghost use mathlib.Core.List.{_++_, map};
 ghost use mathlib.Core.Path.{_≡_};
-ghost use Prim.Native.Nat.{_+_, _*_, _<_, _≤_};
+ghost use Prim.Native.Nat.{_≤_};
 ghost use lib.ListN.{length, drop};
 ghost use lib.Seq.{sets};
-ghost use Rattle.le.specs.Le.{Below, row};
+ghost use Rattle.le.specs.Le.{Below};
 ghost use Rattle.graph.specs.Answer.{answered};
 ghost use Rattle.graph.specs.Calls.{inWorkRoom};
 ghost use Rattle.form.specs.Form.{numbered, tested, Gives};
 ghost use Rattle.packing.specs.Packed.{Returns};
 ghost use Rattle.price.specs.Price as spec;
 ghost use Rattle.price.specs.Price.{roomPrice};
-ghost use Rattle.price.specs.Parts.{Countable};
-ghost use Rattle.price.specs.Range as report;
 ghost use Rattle.price.specs.Range.{firstLength, drawingsIn, mostDrawings, dearer, indexOf, priceRangeCall};
 ghost use Rattle.price.specs.Totals.{formsOf, dearestIn, dearestMeant, totalsOf, sums, refusedOnce, pricedOnce, added, Listed, Upto, meanOf, frontOf, amountsOf, nothing, notRanged, ranging};
 use crate::Bill;
 use crate::price_drawing;
 use crate::put8;
+use crate::put_row;
 use form::Outcome;
 use form::Refusal;
 use form::Step;
-use le::Row;
 use packing::pack;
 
 // The most drawings of a slice.
@@ -265,17 +263,6 @@ pub fn index_of(d: Dearest) -> u32
     match d {
         Dearest::Nothing => NO_DRAWING,
         Dearest::Drawing { index, total: _ } => index,
-    }
-}
-
-// Numbers of 4 bytes from `at` on.
-fn put_row(out: &mut [u8], at: usize, ns: &[u32])
-    requires { ⌜ at + 4 * length (now ns) ≤ length (now out) ⌝ }
-    ensures { λ _. ⌜ now (out .exit) ≡ sets (now (out .entry)) at (row 4 (now (ns .entry))) ⌝ }
-{
-    let r = Row { at, width: 4 };
-    for k in 0..ns.len() {
-        le::put_number(out, r, k, ns[k] as usize);
     }
 }
 

@@ -7,6 +7,7 @@ use denote.Ref.{now}
 use borrow.Author.Needs.{needs}
 use Rattle.graph.specs.Answer.{answered, refused}
 use Rattle.graph.specs.Calls.{inWorkRoom}
+use Rattle.graph.proofs.Verdicts.{in-room}
 use Rattle.le.specs.Le.{Below}
 use Rattle.le.proofs.Numbers.{below-each}
 use Rattle.form.specs.Form.{meantBy}
@@ -18,14 +19,13 @@ use Rattle.price.specs.Price.{Priced, roomPrice}
 use Rattle.price.specs.Totals.{added, pricedOnce, Listed}
 use Rattle.price.proofs.Adding.{price-good, price-number, listed}
 use Rattle.price.proofs.Calls.{priced-refused, priced-answered}
-use Rattle.price.proofs.Along.{room-lent}
 use Rattle.price.proofs.range.add_drawing.Statement.{statement}
 use Rattle.price.proofs.range.add_drawing.Tie as tie
 
 -- the room is lent
 module _ (c : tie.After-price-drawing) where
   lent : inWorkRoom roomPrice (length (now (c .before .before .before .before .args .room))) (spec.price (now (c .before .before .before .before .args .src))) ≡ spec.price (now (c .before .before .before .before .args .src))
-  lent = let s = c .before .before .before .before in room-lent roomPrice (length (now (s .args .room))) (spec.price (now (s .args .src))) (s .pre .1)
+  lent = let s = c .before .before .before .before in in-room roomPrice (length (now (s .args .room))) (spec.price (now (s .args .src))) (s .pre .1)
 
 -- the refusal
 short : (c : tie.After-refusal) → spec.price (now (c .before .before .before .before .before .before .before .before .before .args .src)) ≡ refused (meantBy (c .refusal .result))

@@ -43,6 +43,9 @@ add-start c = omega (arith, stands (c .before) .four)
 add-end : tie.Need-add-end Inv-loop μ-loop
 add-end c = omega (arith, stands (c .before) .inside, c .get4 .ensures)
 
+part-end : tie.Need-part-add-drawing-end Inv-loop μ-loop
+part-end c = omega (arith, stands (c .before) .inside, c .get4 .ensures)
+
 add-drawing-requires : tie.Need-add-drawing-requires Inv-loop μ-loop
 add-drawing-requires c κs =
     let i = c .before .before .before in
@@ -88,7 +91,7 @@ price-drawings-spec =
     add-end
     (λ c. search needs)
     (λ c. search needs)
-    (λ c. search needs)
+    part-end
     add-drawing-requires
     loop-less
     loop-again

@@ -1,4 +1,4 @@
--- `price::range::put_row` meets its contract.
+-- `price::put_row` meets its contract.
 -- Assumes nothing.
 use mathlib.Core.Logic.{inr}
 use mathlib.Core.Path.{_≡_, refl, sym, _∙_}
@@ -9,9 +9,9 @@ use denote.Ref.{now}
 use borrow.Author.Needs.{needs}
 use Rattle.le.specs.Rows.{rowAt, puts}
 use Rattle.le.proofs.Rows.{puts-none}
-use Rattle.price.proofs.Reporting.{row-next, row-put}
-use Rattle.price.proofs.range.put_row.Statement.{statement}
-use Rattle.price.proofs.range.put_row.Tie as tie
+use Rattle.price.proofs.Putting.{row-next, row-put}
+use Rattle.price.proofs.put_row.Statement.{statement}
+use Rattle.price.proofs.put_row.Tie as tie
 
 abbrev Inv-loop : tie.InvT-loop
 Inv-loop out₀ at ns r k₀ k-end out k = (k ≤ length ns) × (k-end ≡ length ns) × (length out ≡ length out₀) × (out ≡ puts out₀ (rowAt at 4) 0 (take k ns))
