@@ -15,8 +15,8 @@ ghost use Rattle.price.specs.Range.{firstLength, drawingsIn, mostDrawing
 ghost use Rattle.price.specs.Totals.{formsOf, dearestIn, dearestMeant, totalsOf, sums, refusedOnce, pricedOnce, added, Listed, Upto, meanOf, frontOf, amountsOf, nothing, notRanged, ranging};
 use crate::Bill;
 use crate::price_drawing;
-use crate::put8;
 use crate::put_row;
+use crate::put8;
 use form::Outcome;
 use form::Refusal;
 use form::Step;
@@ -100,7 +100,11 @@ fn check_drawings(src: &[u8]) -> Step
 fn dearer_of(d: Dearest, index: u32, total: u64) -> Dearest
     ensures { λ r. ⌜ r ≡ dearestIn (dearer (dearestMeant d) index total) ⌝ }
 {
-    let Dearest::Drawing { index: _, total: most } = d else {
+    let Dearest::Drawing {
+        index: _,
+        total: most,
+    } = d
+    else {
         return Dearest::Drawing { index, total };
     };
     if most < total {
