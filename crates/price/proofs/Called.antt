@@ -29,7 +29,7 @@ use Rattle.form.proofs.Answers.{gives-done}
 use Rattle.packing.specs.Packed.{Ranged}
 use Rattle.price.specs.Price.{Priced, price, roomPrice}
 use Rattle.price.specs.Range.{drawingsIn, mostDrawings, sumOf, isPriced, none, dearestOf, indexOf, reportOf, reportBytes, rangeAnswer, priceRangeCall}
-use Rattle.price.specs.RefusedBy.{rangeRefusals}
+use Rattle.price.specs.RefusedBy.{priceRangeRefusals}
 use Rattle.price.specs.Slices.{SliceOf}
 use Rattle.price.specs.Totals.{formsOf, totalsOf, Upto, frontOf, amountsOf, ranging}
 use Rattle.price.specs.declared.range.Totals.{Totals}
@@ -135,18 +135,18 @@ range-call-answer b room lent m e =
 
 -- ---- its refusals: 17 and 10 alone
 
-pub range-by : (b : List ℕ) (room lent : ℕ) → RefusedBy rangeRefusals (priceRangeCall b room lent)
+pub range-by : (b : List ℕ) (room lent : ℕ) → RefusedBy priceRangeRefusals (priceRangeCall b room lent)
 unfolding rangeAnswer
 range-by b room lent =
-    work-by rangeRefusals refl _ lent _
-    (step-by _ _ (record { each = λ r e. subst (λ (q : answer.Refusal). member (q .no) rangeRefusals ≡ true) (sym (drawings-17 mostDrawings b r e)) refl }) (λ forms. step-by _ _ (fit-by rangeRefusals refl room _) (λ list. answer-by _)))
+    work-by priceRangeRefusals refl _ lent _
+    (step-by _ _ (record { each = λ r e. subst (λ (q : answer.Refusal). member (q .no) priceRangeRefusals ≡ true) (sym (drawings-17 mostDrawings b r e)) refl }) (λ forms. step-by _ _ (fit-by priceRangeRefusals refl room _) (λ list. answer-by _)))
 
 -- the numbers of its answer fit their bits, and no refusal is 0
 pub range-ranged : (b : List ℕ) (room lent : ℕ) → Ranged (priceRangeCall b room lent)
 range-ranged b room lent = record {
   no = λ r e.
       let h = range-by b room lent .each r e in
-      (leb-true _ _ (member-passes (leb 1) rangeRefusals (r .no) refl h), ltb-true _ _ (member-passes (λ n. ltb n 256) rangeRefusals (r .no) refl h));
+      (leb-true _ _ (member-passes (leb 1) priceRangeRefusals (r .no) refl h), ltb-true _ _ (member-passes (λ n. ltb n 256) priceRangeRefusals (r .no) refl h));
   numbers = λ m e.
       let h = range-call-answer b room lent m e in
       let n = report-long (map price (h .0)) in

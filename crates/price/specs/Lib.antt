@@ -3,9 +3,9 @@ pub mod Promises
 pub mod RefusedBy
 pub mod Parts
 pub mod Caller
-pub mod ByHand
 pub mod Range
-pub mod Totals
 pub mod Slices
 pub mod Dearests
+pub mod Totals
 pub mod ToldRange
+pub mod ByHand

@@ -5,5 +5,5 @@ use Prim.Native.Nat.{ℕ}
 abbrev pub priceRefusals : List ℕ
 priceRefusals = 1 ∷ 2 ∷ 3 ∷ 4 ∷ 5 ∷ 6 ∷ 13 ∷ 8 ∷ 14 ∷ 15 ∷ 10 ∷ []
 
-abbrev pub rangeRefusals : List ℕ
-rangeRefusals = 17 ∷ 10 ∷ []
+abbrev pub priceRangeRefusals : List ℕ
+priceRangeRefusals = 17 ∷ 10 ∷ []

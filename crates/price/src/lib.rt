@@ -27,6 +27,9 @@ use packing::pack;
 // The work room of the priced parts list: that of the choice.
 pub const ROOM_PRICE: usize = cycle::ROOM_CYCLE_BREAKING_NODES;
 
+// That of a range: all drawings have the same one, one after the other.
+pub const ROOM_PRICE_RANGE: usize = ROOM_PRICE;
+
 // The bytes of the answer: twelve counts and the buffers, 4 bytes each, and the total in 8.
 pub const PRICE_BYTES: usize = 60;
 

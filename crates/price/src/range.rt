@@ -80,17 +80,17 @@ fn drawing_length(src: &[u8], at: usize) -> Step
 fn check_drawings(src: &[u8]) -> Step
     ensures { λ r. ⌜ r ≡ tested (drawingsIn mostDrawings (now (src .entry))) ⌝ }
 {
-    let mut at: usize = 0;
+    let mut next: usize = 0;
     let mut count: usize = 0;
-    while at < src.len() {
+    while next < src.len() {
         if count == MOST_DRAWINGS {
             return Step::Refused(Refusal { no: 17, place: 0 });
         }
-        let step = drawing_length(src, at);
+        let step = drawing_length(src, next);
         let Step::Number(n) = step else {
             return Step::Refused(step.refusal());
         };
-        at = at + 4 + n;
+        next = next + 4 + n;
         count = count + 1;
     }
     Step::Number(0)
@@ -230,7 +230,7 @@ fn not_ranged(x: Refusal) -> Ranging
 pub fn price_slice(src: &[u8], room: &mut [u8]) -> Ranging
     ensures { λ r. ⌜ r ≡ ranging (inWorkRoom roomPrice (length (now (room .entry))) (drawingsIn mostDrawings (now (src .entry)))) ⌝ }
 {
-    let lent = read::work_room(room.len(), crate::ROOM_PRICE);
+    let lent = read::work_room(room.len(), crate::ROOM_PRICE_RANGE);
     let Step::Number(_) = lent else {
         return not_ranged(lent.refusal());
     };

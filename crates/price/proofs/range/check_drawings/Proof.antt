@@ -21,11 +21,11 @@ abbrev μ-loop : tie.MeasureT-loop
 
 -- one drawing more is in order
 more : (c : tie.After-known-told Inv-loop μ-loop) → let l = c .before .before .before .before .before .before .loop in
-    Passed (now (c .before .before .before .before .before .before .before .before .args .src)) (l .at + 4 + c .before .step .given .0 .0) (l .count + 1)
+    Passed (now (c .before .before .before .before .before .before .before .before .args .src)) (l .next + 4 + c .before .step .given .0 .0) (l .count + 1)
 more c =
     let k = c .before .before .before in
     let l = k .before .before .before .loop in
-    let d = drop (l .at) (now (k .before .before .before .before .before .args .src)) in
+    let d = drop (l .next) (now (k .before .before .before .before .before .args .src)) in
     one-passed (l .inv) (k .before .before .loop-test .taken) (k .before .if1 .left) _ (number-answered (firstLength d) (k .drawing-length .result) (k .drawing-length .ensures) _ (c .before .step .given .1))
 
 loop-holds : tie.Need-loop-holds Inv-loop μ-loop
@@ -41,15 +41,15 @@ returns-2 : tie.Need-returns-2 Inv-loop μ-loop
 returns-2 c =
     let k = c .before .before .before in
     let l = k .before .before .before .loop in
-    let d = drop (l .at) (now (k .before .before .before .before .before .args .src)) in
+    let d = drop (l .next) (now (k .before .before .before .before .before .args .src)) in
     length-refused (l .inv) (k .before .before .loop-test .taken) (k .before .if1 .left) (meantBy (c .refusal .result))
     (number-refused (firstLength d) (k .drawing-length .result) (k .drawing-length .ensures) (c .refusal .result) (passed-on (c .before .enum-told .given .1) (c .refusal .ensures)))
 
-add-at : tie.Need-add-at Inv-loop μ-loop
-add-at c = omega (arith, more c .within)
+add-next : tie.Need-add-next Inv-loop μ-loop
+add-next c = omega (arith, more c .within)
 
-add-at-2 : tie.Need-add-at-2 Inv-loop μ-loop
-add-at-2 c = omega (arith, more c .within)
+add-next-2 : tie.Need-add-next-2 Inv-loop μ-loop
+add-next-2 c = omega (arith, more c .within)
 
 add-count : tie.Need-add-count Inv-loop μ-loop
 add-count c = omega (arith, more c .few)
@@ -76,8 +76,8 @@ check-drawings-spec =
     (λ c. search needs)
     (λ c κs. search needs)
     returns-2
-    add-at
-    add-at-2
+    add-next
+    add-next-2
     add-count
     loop-less
     loop-again
