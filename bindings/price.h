@@ -32,19 +32,36 @@ extern "C" {
 /* Refusals beside those of ohg.h, after OHG_PENDING_PAIR: the first edge at fault decides, and the place is 0. */
 enum ohg_price_refusal {
     OHG_UNKNOWN_KIND = 14, /* an edge's label is outside the catalogue, and it is no spider */
-    OHG_OTHER_PORTS = 15   /* an edge has other numbers of sources and targets than its kind */
+    OHG_OTHER_PORTS = 15,  /* an edge has other numbers of sources and targets than its kind */
+    OHG_NO_SLICE = 17      /* of a range: a length is cut short or runs past the input, or there are more than 1,000 drawings */
 };
 
 /* The bytes that ohg_price answers. */
 #define OHG_PRICE_BYTES 60
 
-/* The bytes of work room that the function asks for. */
+/* The bytes that ohg_price_range answers, and the most drawings of a slice. */
+#define OHG_RANGE_BYTES 148
+#define OHG_MOST_DRAWINGS 1000
+
+/* The index that ohg_price_range answers where no drawing is priced. */
+#define OHG_NO_DRAWING 4294967295u
+
+/* The bytes of work room that the functions ask for. */
 #define OHG_ROOM_PRICE 1390016
+#define OHG_ROOM_PRICE_RANGE 1390016
 
 /* Prices a drawing: twelve 4-byte little-endian counts in the order of the kinds, the number of loop buffers (4), and the exact total in
  * hundredths of a cent (8).
  * a: 60, the bytes written. b: 0. Room: OHG_ROOM_PRICE. Refusals: 10 (room), 1 to 6, 13, 8, 14, 15, 10. */
 uint64_t ohg_price(const uint8_t *src, size_t src_len, uint8_t *out, size_t out_len, uint8_t *room, size_t room_len);
+
+/* Prices a range: src has up to 1,000 drawings, each stored form with its length before it, 4 bytes little-endian. The report, 4 bytes
+ * each but where another number stands: drawings priced; refused by 1, by 2, .. by 17; parts of each of the twelve kinds; loop buffers; the
+ * exact sum (8); the dearest drawing's index from 0, refused ones counted too and the first on a tie, OHG_NO_DRAWING where none is priced;
+ * the mean over the priced ones, whole part (8) and remainder.
+ * A refused drawing adds to nothing but its number; a length of 0 is a drawing, refused by 1; no bytes at all are a report of nothing.
+ * a: 148, the bytes written. b: 0. Room: OHG_ROOM_PRICE_RANGE. Refusals: 10 (room), 17 before any drawing is priced, 10. */
+uint64_t ohg_price_range(const uint8_t *src, size_t src_len, uint8_t *out, size_t out_len, uint8_t *room, size_t room_len);
 
 #ifdef __cplusplus
 }
