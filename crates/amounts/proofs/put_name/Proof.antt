@@ -1,4 +1,4 @@
--- `bill::lines::put_name` meets its contract.
+-- `amounts::put_name` meets its contract.
 -- Assumes nothing.
 use mathlib.Core.Path.{ap, _∙_}
 use mathlib.Core.List.{List}
@@ -8,9 +8,9 @@ use lib.ListN.{take, drop}
 use lib.Seq.{sets}
 use denote.Ref.{now}
 use borrow.Author.Needs.{needs}
-use Rattle.bill.proofs.Names.{names, name-length, name-few, name-there}
-use Rattle.bill.proofs.lines.put_name.Statement.{statement}
-use Rattle.bill.proofs.lines.put_name.Tie as tie
+use Rattle.amounts.proofs.Names.{names, name-length, name-few, name-there}
+use Rattle.amounts.proofs.put_name.Statement.{statement}
+use Rattle.amounts.proofs.put_name.Tie as tie
 
 copy-requires : tie.Need-copy-requires
 copy-requires c κs =

@@ -1,10 +1,10 @@
--- `bill::lines::put_amount` meets its contract.
+-- `amounts::put_amount` meets its contract.
 -- Assumes nothing.
 use native.Mathlib.Omega.{arith}
 use borrow.Author.Needs.{needs}
-use Rattle.bill.proofs.Texts.{printed-amount}
-use Rattle.bill.proofs.lines.put_amount.Statement.{statement}
-use Rattle.bill.proofs.lines.put_amount.Tie as tie
+use Rattle.amounts.proofs.Texts.{printed-amount}
+use Rattle.amounts.proofs.put_amount.Statement.{statement}
+use Rattle.amounts.proofs.put_amount.Tie as tie
 
 returns : tie.Need-returns
 returns c =

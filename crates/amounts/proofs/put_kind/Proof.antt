@@ -1,4 +1,4 @@
--- `bill::lines::put_kind` meets its contract.
+-- `amounts::put_kind` meets its contract.
 -- Assumes nothing.
 use mathlib.Core.Path.{_≡_, ap, subst}
 use Prim.Native.Nat.{ℕ, _-_, _*_, _≤_, _<_}
@@ -13,13 +13,13 @@ use Rattle.price.specs.declared.KindRow.{KindRow}
 use Rattle.price.proofs.Bounds.{kind-few}
 use Rattle.text.specs.Text.{ascii, Printed}
 use Rattle.text.proofs.Texts.{printed-then}
-use Rattle.bill.specs.Bill.{rest, countOf}
-use Rattle.bill.proofs.lines.put_kind.Statement.{statement}
-use Rattle.bill.proofs.lines.put_kind.Tie as tie
+use Rattle.amounts.specs.Amounts.{rest, countOf}
+use Rattle.amounts.proofs.put_kind.Statement.{statement}
+use Rattle.amounts.proofs.put_kind.Tie as tie
 
 -- how many of the kind there are
-few : (c : tie.Start) → getD (now (c .args .counts)) (c .args .label - 1) 0 < 16385
-few c = below-at 16385 (now (c .args .counts)) (c .args .label - 1) (c .pre .1 .few) (omega (arith, c .pre .1 .twelve, c .pre .0 .low, c .pre .0 .high))
+few : (c : tie.Start) → getD (now (c .args .counts)) (c .args .label - 1) 0 < 4294967296
+few c = below-at 4294967296 (now (c .args .counts)) (c .args .label - 1) (c .pre .1 .few) (omega (arith, c .pre .1 .twelve, c .pre .0 .low, c .pre .0 .high))
 
 -- what one costs
 price : (c : tie.After-kind-row) → c .kind-row .result .price ≡ kindOf (c .before .before .before .before .before .before .before .before .args .label) .price
@@ -33,7 +33,7 @@ mul-put-rest c =
     let s = c .before .before .before .before .before .before .before .before .before in
     let n = few s in
     let p : c .before .kind-row .result .price ≤ 4200 = omega (arith, price (c .before), kind-few (s .args .label)) in
-    let all : getD (now (s .args .counts)) (s .args .label - 1) 0 * c .before .kind-row .result .price ≤ 16384 * c .before .kind-row .result .price = mul-le-mul-right (c .before .kind-row .result .price) (omega arith) in
+    let all : getD (now (s .args .counts)) (s .args .label - 1) 0 * c .before .kind-row .result .price ≤ 4294967295 * c .before .kind-row .result .price = mul-le-mul-right (c .before .kind-row .result .price) (omega arith) in
     omega (arith, all, p)
 
 returns : tie.Need-returns

@@ -1,10 +1,10 @@
--- `bill::lines::put_rest` meets its contract.
+-- `amounts::put_rest` meets its contract.
 -- Assumes nothing.
 use native.Mathlib.Omega.{arith}
 use borrow.Author.Needs.{needs}
-use Rattle.bill.proofs.Texts.{printed-rest}
-use Rattle.bill.proofs.lines.put_rest.Statement.{statement}
-use Rattle.bill.proofs.lines.put_rest.Tie as tie
+use Rattle.amounts.proofs.Texts.{printed-rest}
+use Rattle.amounts.proofs.put_rest.Statement.{statement}
+use Rattle.amounts.proofs.put_rest.Tie as tie
 
 returns : tie.Need-returns
 returns c =
