@@ -56,7 +56,10 @@ fn main() {
         if n < slice.len() {
             io::write_all(STDERR_FILENO, b"range: standard input can't be read\n");
         } else {
-            io::write_all(STDERR_FILENO, b"range: standard input is longer than 4 MiB\n");
+            io::write_all(
+                STDERR_FILENO,
+                b"range: standard input is longer than 4 MiB\n",
+            );
         }
         return;
     }

@@ -10,9 +10,9 @@ use Rattle.range.proofs.lines.put_mean.Tie as tie
 
 returns : tie.Need-returns
 returns c =
-    let m = c .before .before .before .before .before .before .before .before .before .before .before .before .before .before .before .before .before .before .before .before .args .mean in
-    let named = c .before .before .before .before .before .before .before .before .before .before .before .before .before .before .before .before .put-text in
-    let whole = c .before .before .before .before .before .before .before .before .before .before .before .before .put-amount in
+    let m = c .before .before .before .before .before .before .before .before .before .before .before .before .before .before .before .before .before .before .before .before .before .args .mean in
+    let named = c .before .before .before .before .before .before .before .before .before .before .before .before .before .before .before .before .before .put-text in
+    let whole = c .before .before .before .before .before .before .before .before .before .before .before .before .before .put-amount in
     let rest = c .before .before .before .before .before .before .before .put-field in
     let end = c .before .before .put-text2 in
     (printed-4 (ascii "mean ") (amount (m .whole)) (field " remainder " (m .rest)) (ascii "\n") (named .ensures) (whole .ensures .0) (rest .ensures .0) (end .ensures), omega (arith, named .ensures .ends, whole .ensures .1, rest .ensures .1, end .ensures .ends))
@@ -21,4 +21,13 @@ pub put-mean-spec : {M : Type 1} → statement M
 put-mean-spec =
     tie.close
     (tie.spec
-    ?)
+    (λ c. search needs)
+    (λ c κs. search needs)
+    (λ c κs. search needs)
+    (λ c. search needs)
+    (λ c. search needs)
+    (λ c κs. search needs)
+    (λ c. search needs)
+    (λ c κs. search needs)
+    (λ c. search needs)
+    returns)
