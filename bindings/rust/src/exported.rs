@@ -1,4 +1,4 @@
-//! The functions of `libohg.a` as `bindings/ohg.h` declares them, and that of `libprice.a` as `bindings/price.h` does, each
+//! The functions of `libohg.a` as `bindings/ohg.h` declares them, and those of `libprice.a` as `bindings/price.h` does, each
 //! behind a safe one of the same name over slices. All unsafe code of this crate is here. `ohg_rewrite` is left out: a
 //! graph's bytes are its form, so it would answer the same bytes.
 
@@ -63,4 +63,6 @@ exported! {
     ohg_once_fed(src;;; room);
     #[cfg(feature = "price")]
     ohg_price(src;;; out room);
+    #[cfg(feature = "price")]
+    ohg_price_range(src;;; out room);
 }

@@ -31,6 +31,8 @@ pub enum Refusal {
     OtherPorts = 15,
     /// Some directed cycle has only kept nodes.
     KeptCycle = 16,
+    /// A range has more than 1,000 drawings, or one that is longer than 4 bytes can tell.
+    BadRange = 17,
     /// The result would pass a limit of version 2.
     ResultLimit = 9,
     /// A buffer or work room was too short. This crate lends enough for the library that it belongs to.
@@ -38,7 +40,7 @@ pub enum Refusal {
 }
 
 impl Refusal {
-    const ALL: [Refusal; 15] = [
+    const ALL: [Refusal; 16] = [
         Refusal::NoHeader,
         Refusal::NoMark,
         Refusal::OtherVersion,
@@ -52,11 +54,12 @@ impl Refusal {
         Refusal::UnknownKind,
         Refusal::OtherPorts,
         Refusal::KeptCycle,
+        Refusal::BadRange,
         Refusal::ResultLimit,
         Refusal::ShortBuffer,
     ];
 
-    /// The refusal's number, 1 to 11 or 13 to 16.
+    /// The refusal's number, 1 to 11 or 13 to 17.
     pub fn number(self) -> u8 {
         self as u8
     }
@@ -106,6 +109,9 @@ impl Refusal {
             }
             Refusal::KeptCycle => {
                 "some directed cycle has only kept nodes; free one of these wires, or redraw the loop"
+            }
+            Refusal::BadRange => {
+                "a range has more than 1,000 drawings, or one of more bytes than can be told; price it in parts"
             }
             Refusal::ResultLimit => "the result would pass a limit; split the drawing",
             Refusal::ShortBuffer => {

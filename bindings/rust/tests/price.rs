@@ -1,6 +1,7 @@
-//! The priced parts list: the feature `price`.
+//! The priced parts list and the report on a range: the feature `price`.
 #![cfg(feature = "price")]
 
+use ohg::price::{price_range, Report};
 use ohg::{Graph, NodeId, Refusal, KINDS, SPIDER};
 
 /// Sources, targets and price of each kind.
@@ -79,4 +80,105 @@ fn a_pair_is_told_before_an_edge() {
     let mut graph = one(0, 0, 0, 2);
     graph.unify(NodeId(0), NodeId(1)).expect("it is small");
     assert_eq!(refused(&graph), Refusal::PendingPair);
+}
+
+/// The report on a range that has at most 1,000 drawings.
+fn ranged(forms: &[&[u8]]) -> Report {
+    price_range(forms).expect("it has no more drawings")
+}
+
+#[test]
+fn the_report_of_the_request() {
+    let path = path();
+    let cut = &path.as_bytes()[..path.as_bytes().len() - 1];
+    let report = ranged(&[path.as_bytes(), cut, path.as_bytes()]);
+    assert_eq!((report.drawings(), report.priced), (3, 2));
+    assert_eq!(report.refused_by(Refusal::OtherLength), 1);
+    assert_eq!(report.refused.iter().sum::<u32>(), 1);
+    assert_eq!(report.parts, [2, 2, 2, 0, 0, 2, 2, 2, 0, 2, 2, 0]);
+    assert_eq!((report.buffers, report.sum), (4, 24_060));
+    assert_eq!(report.dearest, Some(0));
+    assert_eq!((report.mean, report.remainder), (12_030, 0));
+}
+
+#[test]
+fn a_report_of_nothing_and_of_what_is_refused() {
+    let nothing = Report {
+        priced: 0,
+        refused: [0; 17],
+        parts: [0; 12],
+        buffers: 0,
+        sum: 0,
+        dearest: None,
+        mean: 0,
+        remainder: 0,
+    };
+    assert_eq!(ranged(&[]), nothing);
+    let mut refused = [0; 17];
+    refused[0] = 2;
+    refused[1] = 1;
+    let all_refused = Report { refused, ..nothing };
+    assert_eq!(ranged(&[b"", &[0; 15], b"OHG"]), all_refused);
+}
+
+#[test]
+fn each_refusal_is_counted_by_its_number() {
+    let form = |graph: &Graph| graph.as_bytes().to_vec();
+    let changed = |at: usize, to: u8| {
+        let mut form = form(&one(8, 1, 1, 2));
+        form[at] = to;
+        form
+    };
+    let mut paired = one(8, 1, 1, 2);
+    paired.unify(NodeId(0), NodeId(1)).expect("it is small");
+    let last = form(&one(8, 1, 1, 2)).len() - 2;
+    let other_form = [b"OHG\x02\0".as_slice(), &[0; 20]].concat();
+    let forms = [
+        (1, vec![]),
+        (2, changed(0, 0)),
+        (3, changed(3, 3)),
+        (4, changed(6, 255)),
+        (5, form(&one(8, 1, 1, 2))[..last].to_vec()),
+        (6, changed(last, 2)),
+        (13, other_form),
+        (8, form(&paired)),
+        (14, form(&one(13, 1, 1, 2))),
+        (15, form(&one(8, 1, 2, 2))),
+    ];
+    for (number, form) in &forms {
+        let report = ranged(&[form]);
+        assert_eq!(report.refused[number - 1], 1, "{number}");
+        assert_eq!((report.drawings(), report.priced), (1, 0));
+    }
+}
+
+/// The first on a tie, counted with the refused ones; what costs nothing is the dearest where nothing costs more.
+#[test]
+fn the_dearest_and_the_mean() {
+    let [free, cheap, dear] = [one(SPIDER, 1, 1, 2), one(9, 1, 1, 2), one(12, 2, 2, 2)];
+    let [free, cheap, dear] = [&free, &cheap, &dear].map(|graph| graph.as_bytes());
+    assert_eq!(ranged(&[b"", free, free]).dearest, Some(1));
+    let report = ranged(&[cheap, b"", dear, free, dear]);
+    assert_eq!((report.priced, report.dearest), (4, Some(2)));
+    assert_eq!(
+        (report.sum, report.mean, report.remainder),
+        (6_320, 1_580, 0)
+    );
+    let report = ranged(&[cheap, cheap, dear]);
+    assert_eq!(
+        (report.sum, report.mean, report.remainder),
+        (3_340, 1_113, 1)
+    );
+}
+
+#[test]
+fn at_most_a_thousand_drawings() {
+    let cheap = one(9, 1, 1, 2);
+    let mut forms = vec![cheap.as_bytes(); 1000];
+    let report = ranged(&forms);
+    assert_eq!((report.priced, report.sum), (1000, 120_000));
+    forms.push(&[]);
+    let refused = price_range(&forms).expect_err("it has one more");
+    assert_eq!((refused.by, refused.place), (Refusal::BadRange, 0));
+    assert_eq!(refused.to_string().split(':').next(), Some("17"));
 }
