@@ -114,7 +114,7 @@ impl Report {
 /// # }
 /// ```
 ///
-/// Refused: [`BadRange`](Refusal::BadRange), and then none of them is priced.
+/// Refused: [`NoSlice`](Refusal::NoSlice), and then none of them is priced.
 pub fn price_range(forms: impl IntoIterator<Item = impl AsRef<[u8]>>) -> Result<Report, Refused> {
     let src = in_one_slice(forms)?;
     let mut list = [0; RANGE_BYTES];
@@ -139,7 +139,7 @@ fn in_one_slice(forms: impl IntoIterator<Item = impl AsRef<[u8]>>) -> Result<Vec
     for form in forms {
         let form = form.as_ref();
         let length = u32::try_from(form.len()).map_err(|_| Refused {
-            by: Refusal::BadRange,
+            by: Refusal::NoSlice,
             place: 0,
         })?;
         src.extend(length.to_le_bytes());

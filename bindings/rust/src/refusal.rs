@@ -32,7 +32,7 @@ pub enum Refusal {
     /// Some directed cycle has only kept nodes.
     KeptCycle = 16,
     /// A range has more than 1,000 drawings, or one that is longer than 4 bytes can tell.
-    BadRange = 17,
+    NoSlice = 17,
     /// The result would pass a limit of version 2.
     ResultLimit = 9,
     /// A buffer or work room was too short. This crate lends enough for the library that it belongs to.
@@ -54,7 +54,7 @@ impl Refusal {
         Refusal::UnknownKind,
         Refusal::OtherPorts,
         Refusal::KeptCycle,
-        Refusal::BadRange,
+        Refusal::NoSlice,
         Refusal::ResultLimit,
         Refusal::ShortBuffer,
     ];
@@ -110,7 +110,7 @@ impl Refusal {
             Refusal::KeptCycle => {
                 "some directed cycle has only kept nodes; free one of these wires, or redraw the loop"
             }
-            Refusal::BadRange => {
+            Refusal::NoSlice => {
                 "a range has more than 1,000 drawings, or one of more bytes than can be told; price it in parts"
             }
             Refusal::ResultLimit => "the result would pass a limit; split the drawing",

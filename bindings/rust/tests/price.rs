@@ -179,6 +179,6 @@ fn at_most_a_thousand_drawings() {
     assert_eq!((report.priced, report.sum), (1000, 120_000));
     forms.push(&[]);
     let refused = price_range(&forms).expect_err("it has one more");
-    assert_eq!((refused.by, refused.place), (Refusal::BadRange, 0));
+    assert_eq!((refused.by, refused.place), (Refusal::NoSlice, 0));
     assert_eq!(refused.to_string().split(':').next(), Some("17"));
 }
