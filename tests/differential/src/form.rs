@@ -73,6 +73,8 @@ pub enum Refusal {
     OtherPorts = 15,
     /// Some directed cycle has only kept nodes.
     KeptCycle = 16,
+    /// A range of drawings with a length that is cut short or runs past the input, or with more than 1,000 drawings.
+    NoSlice = 17,
     /// The result would pass a limit of version 2.
     Result = 9,
     /// An answer buffer is shorter than the answer, or the work room shorter than the call's.

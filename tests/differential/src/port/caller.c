@@ -16,7 +16,7 @@ typedef unsigned long u64;
 /* A word at any address. */
 typedef u64 __attribute__((aligned(1), may_alias)) word;
 
-enum { ARGUMENTS = 12, IMAGE_BYTES = 1 << 22, ROOM_BYTES = (1 << 24) + 64, GUARD = 256, FILLED = 64 };
+enum { ARGUMENTS = 12, IMAGE_BYTES = 1 << 24, ROOM_BYTES = (1 << 24) + 64, GUARD = 256, FILLED = 64 };
 
 struct request {
     u64 function;

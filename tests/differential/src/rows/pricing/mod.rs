@@ -1,7 +1,8 @@
-//! The priced parts list: T-07's text in plain Rust, above the original's choice. It is an archive of its own, which the
-//! replaying program does not link, so its row is in no recorded list.
+//! The priced parts list: T-07's text in plain Rust, above the original's choice; and the report on a range above it. They are
+//! an archive of their own, which the replaying program does not link, so their rows are in no recorded list.
 
 mod picked;
+pub mod range;
 
 use super::choice::{self, chosen_by_original, families, unpaired};
 use crate::arguments::graph_alone;
@@ -19,7 +20,7 @@ use oracle::lax::spider::WithSpider;
 pub const GROUP: Group = Group {
     name: "pricing",
     operations: OPERATIONS,
-    share: 1,
+    share: 2,
     fixed,
     every,
     step: 64,
@@ -27,15 +28,26 @@ pub const GROUP: Group = Group {
     damaged: 1,
 };
 
-const OPERATIONS: &[Operation] = &[Operation {
-    number: 100,
-    name: "ohg_price",
-    parameters: &[Input, Answered, Room],
-    refusals: &[1, 2, 3, 4, 5, 6, 13, 8, 14, 15, 10],
-    picked: picked::picked,
-    arguments: graph_alone,
-    expected: price,
-}];
+const OPERATIONS: &[Operation] = &[
+    Operation {
+        number: 100,
+        name: "ohg_price",
+        parameters: &[Input, Answered, Room],
+        refusals: &[1, 2, 3, 4, 5, 6, 13, 8, 14, 15, 10],
+        picked: picked::picked,
+        arguments: graph_alone,
+        expected: price,
+    },
+    Operation {
+        number: 101,
+        name: "ohg_price_range",
+        parameters: &[Input, Answered, Room],
+        refusals: &[17, 10],
+        picked: range::picked,
+        arguments: range::around,
+        expected: range::price_range,
+    },
+];
 
 /// A kind of part: its label, how many sources and targets it has, and its price in hundredths of a cent.
 pub struct Kind {
@@ -90,8 +102,13 @@ impl Priced {
     }
 }
 
+/// The single answer: the parts of any bytes.
+fn single(arguments: &Arguments) -> Checked<Priced> {
+    priced(&unpaired(arguments)?)
+}
+
 fn price(arguments: &Arguments) -> Outcome {
-    let priced = priced(&unpaired(arguments)?)?;
+    let priced = single(arguments)?;
     let bytes = priced.bytes();
     Ok(Answer {
         a: bytes.len() as u32,
