@@ -23,7 +23,7 @@ size_t fitted(uint8_t fit, size_t exact, size_t most) {
 
 void ample(const struct call *c, size_t length[LENGTHS]) {
     /* each node of 4 bytes becomes at most a node and two edges, in version 2 36; each entry of 2 at most a node and two entries, 12 */
-    size_t len = 64 + 9 * c->src.len + 4 * (c->list[0].len + c->list[1].len);
+    size_t len = OHG_RANGE_BYTES + 9 * c->src.len + 4 * (c->list[0].len + c->list[1].len);
     for (int i = 0; i < OUTS; i++) length[i] = len < OUT_MOST ? len : OUT_MOST;
     length[OUTS] = functions[c->function].room;
 }
@@ -72,6 +72,7 @@ static void check_numbers(const struct function *f, const struct graph *g, uint6
     if (f->answers == EXPLAINED && a != g->nodes) fail(f->name, "each node has an entry");
     if (f->answers == YES && a > 1) fail(f->name, "a check answers 0 or 1");
     if (f->answers == PRICES && a != OHG_PRICE_BYTES) fail(f->name, "a priced parts list has 60 bytes");
+    if (f->answers == REPORT && a != OHG_RANGE_BYTES) fail(f->name, "a report has 148 bytes");
     if ((f->answers == FORM || f->answers == FORM_AND_MAP) && (a < 15 || a > OHG_FORM_BYTES)) fail(f->name, "a form has 15 to 655,385 bytes");
 }
 
@@ -345,6 +346,43 @@ static void check_price(struct desk *d, const struct call *c, const struct outco
     if (get(list + 52, 4) != (uint32_t)total || get(list + 56, 4) != total >> 32) fail(f->name, "the total is what counts and buffers cost");
 }
 
+/* What one drawing of a range is refused by, or its parts and the choice's nodes. */
+static unsigned price_alone(struct desk *d, struct slice src, struct counted *p, uint32_t *buffers) {
+    struct graph g = read_graph(d, src);
+    if (g.refused) return OHG_CODE(g.refused);
+    if (g.pairs) return OHG_PENDING_PAIR;
+    count_parts(src, p);
+    if (p->fault) return p->fault;
+    struct lent l;
+    uint64_t chosen = follow(d, CHOOSE, src, (struct slice){0}, &l);
+    if (OHG_CODE(chosen)) fail(functions[CHOOSE].name, "it answers where a drawing is priced");
+    *buffers = OHG_A(chosen);
+    return OHG_DONE;
+}
+
+/* 17 is for what is no range, by range.c; else the report is the one over the drawings, each priced by itself. */
+static void check_range(struct desk *d, const struct call *c, const struct outcome *o) {
+    static unsigned codes[OHG_MOST_DRAWINGS];
+    static struct counted parts[OHG_MOST_DRAWINGS];
+    static uint32_t buffers[OHG_MOST_DRAWINGS];
+    const struct function *f = &functions[c->function];
+    struct slice rest = c->src, drawing;
+    struct report due, r;
+    uint32_t drawings = 0;
+    if (is_range(rest) != (o->returned != OHG_NO_SLICE)) fail(f->name, "17 is for what is no range of up to 1,000 drawings");
+    if (o->returned == OHG_NO_SLICE) return;
+    for (; take_drawing(&rest, &drawing); drawings++) codes[drawings] = price_alone(d, drawing, &parts[drawings], &buffers[drawings]);
+    make_report(codes, parts, buffers, drawings, &due);
+    get_report(o->bytes[0], &r);
+    if (r.priced != due.priced) fail(f->name, "it counts the drawings that are priced");
+    if (memcmp(r.refused, due.refused, sizeof r.refused) != 0) fail(f->name, "it counts the refused drawings by their numbers");
+    if (memcmp(r.count, due.count, sizeof r.count) != 0) fail(f->name, "it counts the parts of the priced drawings");
+    if (r.buffers != due.buffers) fail(f->name, "it counts their loop buffers");
+    if (r.sum != due.sum) fail(f->name, "the sum is what they cost");
+    if (r.dearest != due.dearest) fail(f->name, "it names the first of the dearest drawings");
+    if (r.mean != due.mean || r.remainder != due.remainder) fail(f->name, "the mean is over the priced drawings");
+}
+
 /* The call with the buffers that the case names: the same answer, or 10 where one is too short. */
 static void call_again(struct desk *d, const struct call *c, const struct outcome *o) {
     const struct function *f = &functions[c->function];
@@ -387,7 +425,7 @@ void run_case(struct desk *d, const struct call *c, struct outcome *o) {
     current = c;
     const struct function *f = &functions[c->function];
     struct graph g = {0};
-    if (f->graph) g = read_graph(d, c->src);
+    if (f->graph && c->function != PRICE_RANGE) g = read_graph(d, c->src);
     if (g.refused) check_mended(d, c->src, g.refused);
     size_t length[LENGTHS];
     ample(c, length);
@@ -407,5 +445,6 @@ void run_case(struct desk *d, const struct call *c, struct outcome *o) {
     if (keeps && !g.refused) check_keeping(d, c, o, &g);
     if (c->function == SCANNING) check_engines(d, c, o);
     if (c->function == PRICE && !g.refused && !g.pairs) check_price(d, c, o);
+    if (c->function == PRICE_RANGE) check_range(d, c, o);
     current = NULL;
 }

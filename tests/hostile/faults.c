@@ -32,6 +32,8 @@ uint64_t __real_ohg_reasons(const uint8_t *src, size_t src_len, uint8_t *out, si
 uint64_t __wrap_ohg_reasons(const uint8_t *src, size_t src_len, uint8_t *out, size_t out_len, uint8_t *room, size_t room_len);
 uint64_t __real_ohg_price(const uint8_t *src, size_t src_len, uint8_t *out, size_t out_len, uint8_t *room, size_t room_len);
 uint64_t __wrap_ohg_price(const uint8_t *src, size_t src_len, uint8_t *out, size_t out_len, uint8_t *room, size_t room_len);
+uint64_t __real_ohg_price_range(const uint8_t *src, size_t src_len, uint8_t *out, size_t out_len, uint8_t *room, size_t room_len);
+uint64_t __wrap_ohg_price_range(const uint8_t *src, size_t src_len, uint8_t *out, size_t out_len, uint8_t *room, size_t room_len);
 uint64_t __real_ohg_spiderize(const uint8_t *src, size_t src_len, uint8_t *out, size_t out_len, uint8_t *room, size_t room_len);
 uint64_t __wrap_ohg_spiderize(const uint8_t *src, size_t src_len, uint8_t *out, size_t out_len, uint8_t *room, size_t room_len);
 uint64_t __real_ohg_spiderize_nodes(const uint8_t *src, size_t src_len, const uint8_t *ids, size_t ids_len, uint8_t *out, size_t out_len,
@@ -768,6 +770,122 @@ uint64_t __wrap_ohg_price(const uint8_t *src, size_t src_len, uint8_t *out, size
     case 154: /* a spider is no part */
         form = relabelled(src, done ? src_len : 0, 0xFFFFFFFF, 0xFFFFFFFF, 13);
         return done ? __real_ohg_price(form.at, form.len, out, out_len, room, room_len) : r;
+    }
+    return r;
+}
+
+static void put8(uint8_t *at, uint64_t n) {
+    put(at, n, 4);
+    put(at + 4, n >> 32, 4);
+}
+
+/* Where things stand in a report. */
+enum { REFUSED_AT = 4, KINDS_AT = 72, BUFFERS_AT = 120, SUM_AT = 124, DEAREST_AT = 132, MEAN_AT = 136, REST_AT = 144 };
+
+enum dearest { LAST_ON_TIE, WITHOUT_REFUSED, NEVER_FREE };
+
+/* Names another drawing as the dearest: the last that costs most, or the first, counted without the refused ones; or none where all cost nothing. */
+static void name_dearest(struct slice src, enum dearest rule, uint8_t *out, uint8_t *room, size_t room_len) {
+    uint8_t list[OHG_PRICE_BYTES];
+    uint64_t most = 0;
+    uint32_t named = OHG_NO_DRAWING, priced = 0;
+    struct slice drawing;
+    for (uint32_t i = 0; take_drawing(&src, &drawing); i++) {
+        if (OHG_CODE(__real_ohg_price(drawing.at, drawing.len, list, sizeof list, room, room_len))) continue;
+        uint64_t total = get(list + 52, 4) | (uint64_t)get(list + 56, 4) << 32;
+        bool first = named == OHG_NO_DRAWING;
+        if (first ? rule != NEVER_FREE || total : rule == LAST_ON_TIE ? total >= most : total > most) {
+            named = rule == WITHOUT_REFUSED ? priced : i;
+            most = total;
+        }
+        priced++;
+    }
+    put(out + DEAREST_AT, named, 4);
+}
+
+/* Adds the parts of the drawings that are refused by 14 or 15. */
+static void add_refused_parts(struct slice src, uint8_t *out, uint8_t *room, size_t room_len) {
+    uint8_t list[OHG_PRICE_BYTES];
+    struct slice drawing;
+    struct counted p;
+    while (take_drawing(&src, &drawing)) {
+        unsigned code = OHG_CODE(__real_ohg_price(drawing.at, drawing.len, list, sizeof list, room, room_len));
+        if (code != OHG_UNKNOWN_KIND && code != OHG_OTHER_PORTS) continue;
+        count_parts(drawing, &p);
+        for (int k = 0; k < KINDS; k++) add_to(out + KINDS_AT, k, p.count[k]);
+    }
+}
+
+/* The mean over this many. */
+static void put_mean(uint8_t *out, uint32_t over) {
+    uint64_t sum = get(out + SUM_AT, 4) | (uint64_t)get(out + SUM_AT + 4, 4) << 32;
+    if (!over) return;
+    put8(out + MEAN_AT, sum / over);
+    put(out + REST_AT, sum % over, 4);
+}
+
+/* The first so many drawings of a slice, as far as they are whole. */
+static struct slice first_drawings(struct slice src, uint32_t most) {
+    struct slice rest = src, drawing;
+    for (; most && take_drawing(&rest, &drawing); most--) {}
+    return (struct slice){src.at, rest.at - src.at};
+}
+
+static uint32_t drawings_of(struct slice src) {
+    struct slice drawing;
+    uint32_t drawings = 0;
+    while (take_drawing(&src, &drawing)) drawings++;
+    return drawings;
+}
+
+/* The drawings of a slice that have some bytes. */
+static struct slice not_empty(struct slice src) {
+    static uint8_t some[SRC_MOST];
+    struct slice drawing;
+    size_t len = 0;
+    while (take_drawing(&src, &drawing)) {
+        if (!drawing.len) continue;
+        memcpy(some + len, drawing.at - 4, 4 + drawing.len);
+        len += 4 + drawing.len;
+    }
+    return (struct slice){some, len};
+}
+
+uint64_t __wrap_ohg_price_range(const uint8_t *src, size_t src_len, uint8_t *out, size_t out_len, uint8_t *room, size_t room_len) {
+    struct slice all = {(uint8_t *)src, src_len}, part;
+    uint8_t before = room_len ? room[0] : 0;
+    uint32_t drawings = drawings_of(all);
+    bool taken = room_len >= OHG_ROOM_PRICE_RANGE && is_range(all);
+    if (planted() == 162 && taken && drawings == OHG_MOST_DRAWINGS) return OHG_NO_SLICE; /* 1,000 drawings refused */
+    if (planted() == 164 && taken && !src_len) return OHG_NO_SLICE; /* no bytes at all refused */
+    uint64_t r = __real_ohg_price_range(src, src_len, out, out_len, room, room_len);
+    unsigned code = OHG_CODE(r);
+    bool done = code == OHG_DONE, no_slice = code == OHG_NO_SLICE;
+    switch (planted()) {
+    case 155: /* the last on a tie */
+    case 156: /* the index without the refused ones */
+    case 157: if (done) name_dearest(all, planted() - 155, out, room, room_len); break; /* what costs nothing is not the dearest */
+    case 158: if (done) put_mean(out, drawings); break; /* the mean over all drawings */
+    case 159: if (done) add_refused_parts(all, out, room, room_len); break;
+    case 160: /* 1,001 drawings taken */
+        part = first_drawings(all, OHG_MOST_DRAWINGS);
+        return no_slice && drawings > OHG_MOST_DRAWINGS ? __real_ohg_price_range(part.at, part.len, out, out_len, room, room_len) : r;
+    case 161: /* a length that is cut short or runs past the input ends the range */
+        part = first_drawings(all, drawings);
+        return no_slice ? __real_ohg_price_range(part.at, part.len, out, out_len, room, room_len) : r;
+    case 163: /* a length of 0 is no drawing */
+        part = not_empty(all);
+        return done ? __real_ohg_price_range(part.at, part.len, out, out_len, room, room_len) : r;
+    case 165: if (done && !get(out, 4)) put(out + DEAREST_AT, 0, 4); break; /* the first where none is priced */
+    case 166: if (done) put(out + REST_AT, 0, 4); break;
+    case 167: if (done) memmove(out + REFUSED_AT + 4, out + REFUSED_AT, 64); break; /* refusals off by one place */
+    case 168: if (done) put(out + BUFFERS_AT, 0, 4); break;
+    case 169: if (done) out[SUM_AT + 7] ^= 1; break;
+    case 170: return no_slice && out_len < OHG_RANGE_BYTES ? OHG_SHORT_BUFFER : r; /* 10 before 17 */
+    case 171: return no_slice ? placed(r, drawings) : r;
+    case 172: if ((no_slice || code == OHG_SHORT_BUFFER) && out_len) out[0] ^= 1; break;
+    case 173: if (done) out[KINDS_AT] ^= before & 1; break; /* what the room held counts */
+    case 174: if (done) put(out, drawings, 4); break; /* refused ones are counted as priced */
     }
     return r;
 }

@@ -17,7 +17,7 @@
 #endif
 #endif
 
-enum { FUNCTIONS = 25, CODES = 17, LISTS = 2, OUTS = 2, LENGTHS = OUTS + 1, FITS = 8, GUARD = 256 };
+enum { FUNCTIONS = 26, CODES = 18, LISTS = 2, OUTS = 2, LENGTHS = OUTS + 1, FITS = 8, GUARD = 256 };
 
 /* The most bytes that are lent: more than any of them has a use for. */
 enum { SRC_MOST = 700000, LIST_MOST = 1 << 19, OUT_MOST = OHG_FORM_BYTES + 1024, ROOM_MOST = OHG_ROOM_CYCLE_BREAKING_NODES + 4096 };
@@ -35,7 +35,7 @@ struct lent {
     struct slice src, list[LISTS], out[OUTS], room;
 };
 
-enum answers { SIZES, FORM, FORM_AND_MAP, LIST, LOOP, EXPLAINED, YES, PRICES };
+enum answers { SIZES, FORM, FORM_AND_MAP, LIST, LOOP, EXPLAINED, YES, PRICES, REPORT };
 enum second { NOTHING, NODE_ID, EDGE_ID, ENTRIES, FREE, STEPS, CUTS }; /* what b is */
 enum numbers { NO_NUMBER, LABEL, TWO_NODES, EDGE_AND_LABEL };
 enum entries { NO_LIST, LABELS, NODES, EDGES }; /* of lists in the call */
@@ -43,7 +43,7 @@ enum entries { NO_LIST, LABELS, NODES, EDGES }; /* of lists in the call */
 struct function {
     const char *name;
     uint64_t (*call)(const struct lent *);
-    bool graph; /* whether a stored graph is read */
+    bool graph; /* whether a stored graph is read, or a slice of them */
     enum numbers numbers;
     enum entries entries;
     int lists, outs;
@@ -55,7 +55,7 @@ struct function {
 
 extern const struct function functions[FUNCTIONS];
 
-enum { READ = 0, REWRITE = 1, DISCRETE = 3, DELETE_NODES = 13, SPIDERIZE = 14, SPIDERIZE_NODES = 15, CHOOSE = 16, NO_LOOP = 17, QUOTIENT = 19, KEEPING = 20, FIND_LOOP = 21, SCANNING = 22, REASONS = 23, PRICE = 24 };
+enum { READ = 0, REWRITE = 1, DISCRETE = 3, DELETE_NODES = 13, SPIDERIZE = 14, SPIDERIZE_NODES = 15, CHOOSE = 16, NO_LOOP = 17, QUOTIENT = 19, KEEPING = 20, FIND_LOOP = 21, SCANNING = 22, REASONS = 23, PRICE = 24, PRICE_RANGE = 25 };
 
 /* ---- record.c: a call as the bytes of a file ---- */
 
@@ -216,6 +216,24 @@ struct counted {
 
 /* The parts of a form that is taken and has no pairs. */
 void count_parts(struct slice src, struct counted *p);
+
+/* ---- range.c: the report on a slice of drawings, written from T-13's text apart from the port ---- */
+
+enum { REFUSALS = 17 };
+
+struct report {
+    uint32_t priced, refused[REFUSALS], count[KINDS], buffers, dearest, remainder;
+    uint64_t sum, mean;
+};
+
+/* Takes the first drawing off a slice; false where its length is cut short or runs past the end. */
+bool take_drawing(struct slice *rest, struct slice *drawing);
+/* Whether a slice is drawings, each with its length before it, and no more than there may be. */
+bool is_range(struct slice src);
+/* The report on so many drawings, of which each was refused by its code, or has parts and buffers where that is 0. */
+void make_report(const unsigned *codes, const struct counted *parts, const uint32_t *buffers, uint32_t drawings, struct report *r);
+/* The numbers in the bytes of a report. */
+void get_report(const uint8_t *bytes, struct report *r);
 
 /* ---- cases.c: calls that belong together ---- */
 

@@ -267,6 +267,44 @@ static size_t make_src(struct maker *m) {
     return len;
 }
 
+/* Puts a drawing behind a slice with its length before it, as far as there is room. */
+static size_t put_drawing(uint8_t *slice, size_t len, const uint8_t *drawing, size_t bytes) {
+    if (len + 4 + bytes > SRC_MOST) return len;
+    put(slice + len, bytes, 4);
+    memcpy(slice + len + 4, drawing, bytes);
+    return len + 4 + bytes;
+}
+
+/* One drawing for a range: parts mostly, some of them nothing but spiders or no bytes, and whatever comes. */
+static size_t make_drawing(struct maker *m, enum size size) {
+    struct random *r = &m->chance;
+    uint64_t kind = below(r, 16);
+    if (kind == 0) return 0;
+    if (kind == 1) return noise(r, m->other, below(r, 32));
+    if (kind == 2 && size != SMALL) return kept_form(m, m->other);
+    if (kind == 3) return drawn_form(r, SMALL, m->other);
+    size_t len = drawn_parts(r, kind == 4 ? size : SMALL, m->other);
+    if (kind == 5) len = change(r, m->other, len, OHG_FORM_BYTES);
+    return len;
+}
+
+/* A range: few drawings mostly, the one before again now and then, and about as many as there may be; sometimes its lengths are broken. */
+static size_t make_range(struct maker *m) {
+    struct random *r = &m->chance;
+    bool many = one_in(r, 64);
+    size_t len = 0, last = 0, count = many ? OHG_MOST_DRAWINGS - 1 + below(r, 3) : below(r, 8);
+    for (size_t i = 0; i < count; i++) {
+        if (i == 0 || !one_in(r, many ? 2 : 4)) last = many && !one_in(r, 8) ? 0 : make_drawing(m, many ? SMALL : size_class(m));
+        len = put_drawing(m->src, len, m->other, last);
+    }
+    uint64_t kind = below(r, 24);
+    if (kind == 0) len = most_of(len, below(r, len + 1));
+    else if (kind == 1) len += noise(r, m->src + len, most_of(1 + below(r, 4), SRC_MOST - len));
+    else if (kind == 2 && len) m->src[below(r, 4)] ^= 1 << below(r, 8);
+    else if (kind == 3) len = change(r, m->src, len, SRC_MOST);
+    return len;
+}
+
 /* A list of labels, or of ids that are as wide as the graph's, or now and then of the other width. */
 static size_t make_list(struct maker *m, uint8_t *to, enum entries entries, const uint32_t counts[2], uint32_t width) {
     struct random *r = &m->chance;
@@ -304,7 +342,8 @@ struct call make_call(struct maker *m) {
     struct call c = {.function = below(r, FUNCTIONS), .sides = any(r), .src = {m->src, 0}};
     const struct function *f = &functions[c.function];
     for (int i = 0; i < LENGTHS; i++) c.fit[i] = one_in(r, 3) ? any(r) : 2;
-    if (f->graph) c.src.len = c.function == PRICE && !one_in(r, 4) ? drawn_parts(r, size_class(m), m->src) : make_src(m);
+    if (c.function == PRICE_RANGE && !one_in(r, 16)) c.src.len = make_range(m);
+    else if (f->graph) c.src.len = c.function == PRICE && !one_in(r, 4) ? drawn_parts(r, size_class(m), m->src) : make_src(m);
     uint32_t counts[2] = {0, 0}, width = ohg_width(c.src.at, c.src.len);
     if (c.src.len >= 15)
         for (int i = 0; i < 2; i++) counts[i] = get(m->src + 5 + width * i, width);
