@@ -43,6 +43,9 @@ pub const PLAIN_PRICING: [&str; 3] = [
     "plain pricing (stored)",
 ];
 
+/// The report on a range too: beside a single call for each drawing.
+pub const SINGLE_AND_PLAIN: [&str; 2] = ["1,000 single calls", "plain report (stored)"];
+
 /// The ratios of one row of a table: the port's time to each of what it stands beside.
 struct Row {
     /// The row's first word.
