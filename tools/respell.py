@@ -147,6 +147,8 @@ def main():
     for path in list(files("crates", (".antt", ".rt", ".edit"))) + list(files(".", (".md",))):
         text = read(path)
         skip = {name for name in turned if path in lent.get(name, ())}
+        if not path.endswith(".antt"):
+            skip |= {name for name in turned if re.fullmatch(r"[a-z0-9_']+", name)}
         if path.endswith(".antt") and not path.endswith("/Proof.antt"):
             skip |= {name for name in lent if path in lent[name]}
             text_names = {w for m in USE.finditer(text) for w in WORD.findall(m.group(1))}

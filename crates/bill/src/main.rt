@@ -1,6 +1,7 @@
 // The bill of a drawing, for the cost desk. Reads a stored form of either version from standard input and prints its parts list: a line for each kind of the catalogue and
 // one for the loop buffers, with how many there are and what they cost together, and the total; amounts in cents with two decimals. On a refusal it prints one line,
 // `refused` and the number.
+#![tactic(auto)]
 mod lines;
 
 ghost use Rattle.std.specs.Prelude.{◌≡◌, ◌≤◌, length};

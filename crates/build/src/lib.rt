@@ -1,5 +1,6 @@
 // Many building and deleting steps in one call: the stored graph is loaded into the tables of the room, each step changes the tables, and the last graph is written.
 // Nothing is written to the answer buffer before the last step has passed.
+#![tactic(auto)]
 ghost use Rattle.std.specs.Prelude.{◌≡◌, ℕ, ◌+◌, ◌*◌, ◌<◌, ◌≤◌, ◌^◌, length, get_or, drop};
 ghost use Rattle.le.specs.Le.{words, number_at, numbers};
 ghost use Rattle.le.specs.Rows.{row_at};
@@ -19,14 +20,14 @@ use le::Row;
 pub const ROOM_BUILD: usize = ledger::ROOM_BYTES;
 
 // Where the steps end: the index of a step, and why it is refused.
-#[derive(Drop)]
+#[derive(Clone, Copy)]
 pub struct Stop {
     pub index: usize,
     pub refusal: Refusal,
 }
 
 // What the call answers: its two numbers, or where it ends.
-#[derive(Drop)]
+#[derive(Clone, Copy)]
 pub enum Ending {
     Done { a: usize, b: usize },
     Stopped(Stop),
@@ -35,7 +36,7 @@ pub enum Ending {
 // ---- a step taken apart
 
 // A step in the list: where its numbers begin and how many there are before its lists, where the lists begin and how many entries each has, and where the next step begins.
-#[derive(Drop)]
+#[derive(Clone, Copy)]
 pub struct StepAt {
     pub kind: usize,
     pub at: usize,
@@ -45,7 +46,7 @@ pub struct StepAt {
     pub end: usize,
 }
 
-#[derive(Drop)]
+#[derive(Clone, Copy)]
 pub enum Found {
     Step(StepAt),
     Refused(Refusal),
@@ -140,7 +141,7 @@ fn step_at(steps: &[u8], place: usize) -> Found
 // ---- a step carried out
 
 // The sizes of the graph after a step, or the refusal.
-#[derive(Drop)]
+#[derive(Clone, Copy)]
 pub enum Stepped {
     Next(Sizes),
     Refused(Refusal),
@@ -359,7 +360,7 @@ fn turn(room: &mut [u8], steps: &[u8], p: StepAt, z: Sizes) -> Stepped
 }
 
 // Where the steps have led: the sizes of the last graph, or where they end.
-#[derive(Drop)]
+#[derive(Clone, Copy)]
 pub enum Led {
     To(Sizes),
     Stopped(Stop),

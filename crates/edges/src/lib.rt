@@ -1,4 +1,5 @@
 // The edges of a stored form, one after the other, with refusals 5 and 4; and the place of the first id that is no node's.
+#![tactic(auto)]
 ghost use Rattle.std.specs.Prelude.{◌≡◌, ℕ, ◌+◌, ◌*◌, ◌<◌, ◌≤◌, ◌^◌, List, length, drop};
 ghost use Rattle.le.specs.Le.{number_at};
 ghost use Rattle.le.specs.Rows.{row_at, Holds};
@@ -26,7 +27,7 @@ pub fn ports_at(s: &[u8], at: usize, width: usize) -> usize
 }
 
 // Where reading stands after an edge or several: the port sum, the next place, and how far the ids reach. Or the edge there passes the limit of ports with this sum.
-#[derive(Drop)]
+#[derive(Clone, Copy)]
 pub enum Edges {
     Next {
         ports: usize,

@@ -1,5 +1,6 @@
 // What the stored form is in code: its versions, the sizes of a graph and the rows of numbers that follow from them, one walk over the edges, and what steps and
 // calls answer. Nothing is decoded: a graph is its bytes and its sizes.
+#![tactic(auto)]
 ghost use Rattle.std.specs.Prelude.{◌≡◌, ◌+◌, ◌-◌, ◌^◌};
 ghost use Rattle.graph.specs.Graph as graph;
 ghost use Rattle.graph.specs.Graph.{counts_fit, sizes_fit};
@@ -11,14 +12,14 @@ ghost use Rattle.form.specs.Form.{meant, counts_of, body_of, labels_of, edge_in,
 use le::Row;
 
 // Why a call was refused: the number that document 01 gives it; and where, a byte in 1 to 6 and an entry's index in 7, else 0.
-#[derive(Drop)]
+#[derive(Clone, Copy)]
 pub struct Refusal {
     pub no: u32,
     pub place: usize,
 }
 
 // What a step answers: a number, or the refusal to pass on.
-#[derive(Drop)]
+#[derive(Clone, Copy)]
 pub enum Step {
     Number(usize),
     Refused(Refusal),
@@ -37,14 +38,14 @@ impl Step {
 }
 
 // What a call answers: its two numbers, or the refusal.
-#[derive(Drop)]
+#[derive(Clone, Copy)]
 pub enum Outcome {
     Done { a: usize, b: usize },
     Refused(Refusal),
 }
 
 // A version of the stored form: its number, the bytes of a count or an id, and the most of each item.
-#[derive(Drop)]
+#[derive(Clone, Copy)]
 pub struct Format {
     pub version: usize,
     pub width: usize,
@@ -89,7 +90,7 @@ pub fn form2() -> Format
 }
 
 // How large a graph is, and the bytes of a count or an id in its form. The places of all that is stored follow from it.
-#[derive(Drop)]
+#[derive(Clone, Copy)]
 pub struct Sizes {
     pub width: usize,
     pub nodes: usize,
@@ -141,7 +142,7 @@ pub fn fitting_width(z: Sizes) -> usize
 }
 
 // What reading answers.
-#[derive(Drop)]
+#[derive(Clone, Copy)]
 pub enum Reading {
     Sized(Sizes),
     Refused(Refusal),
@@ -190,7 +191,7 @@ pub fn body_row(z: Sizes) -> Row
 }
 
 // An edge where it stands in the row: how many sources and targets it has, the index of its first id, and the index after its last.
-#[derive(Drop)]
+#[derive(Clone, Copy)]
 pub struct EdgeAt {
     pub sources: usize,
     pub targets: usize,

@@ -1,4 +1,5 @@
 // The header of a stored form: its mark and version, with refusals 1 to 3, and its counts, with 5 and 4.
+#![tactic(auto)]
 ghost use Rattle.std.specs.Prelude.{◌≡◌, ◌≤◌, length, take};
 ghost use Rattle.le.specs.Le.{Wide};
 ghost use Rattle.graph.specs.Lists.{same};
@@ -42,7 +43,7 @@ pub fn read_version(s: &[u8]) -> Step
 }
 
 // What a version's number stands for.
-#[derive(Drop)]
+#[derive(Clone, Copy)]
 pub enum Versioned {
     Is(Format),
     Refused(Refusal),

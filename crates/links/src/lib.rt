@@ -1,6 +1,7 @@
 // The table of spiderizing in the lent work room: which nodes are listed, and for each listed node and kind of entry the chain of its fresh nodes.
 // The room is a row of cells. Node x has the four cells from 4 x on, one for each kind of entry: the fresh node that came last, 0 where there is none.
 // A node that is not listed has the highest number of a cell there. Fresh node f has the cell at 3 nodes + f: the fresh node before it in its chain, or 0.
+#![tactic(auto)]
 ghost use Rattle.std.specs.Prelude.{◌≡◌, true, false, List, [], ◌∷◌, ◌++◌, ℕ, ◌+◌, ◌*◌, ◌-◌, ◌<◌, ◌≤◌, ◌^◌, length, get_or, set, replicate};
 ghost use Rattle.std.proofs.lemmas.List.Edits.{sets};
 ghost use Rattle.le.specs.Rows.{Holds, puts};

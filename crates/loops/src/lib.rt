@@ -1,6 +1,7 @@
 // One loop of a stored drawing, in what the first free removal leaves: from a node to its lowest edge and from an edge to its lowest target, by turns, until a vertex
 // is met again. A slice is handed to a function by the address of a pointer and a length on the caller's stack, so that a call that hands one on can't be a jump. The
 // two steps take references to slices instead, and mark what was visited in an array: their calls are jumps, and the deepest walk takes no more stack than the shortest.
+#![tactic(auto)]
 ghost use Rattle.std.specs.Prelude.{◌≡◌, ℕ, ◌+◌, ◌-◌, ◌*◌, ◌<◌, ◌≤◌, ◌∷◌, ltb, length};
 ghost use Rattle.le.specs.Le.{words, Wide};
 ghost use Rattle.le.specs.Rows.{Holds, row_at, span};
@@ -152,7 +153,7 @@ fn lowest_node(room: &[u8], nodes: usize) -> usize
 }
 
 // How a walk ended: the steps taken, and the vertex that was met again.
-#[derive(Drop)]
+#[derive(Clone, Copy)]
 pub struct Closed {
     pub steps: usize,
     pub again: usize,

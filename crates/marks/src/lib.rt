@@ -1,6 +1,7 @@
 // The two tables of the scanning engine and the hints behind them, in a lent room, and its small steps on them: a byte for each vertex and the two degrees of each node.
 // An edge has no degrees: its entries that remain are looked up in the form. One without a source or without a target that remains goes, and at once those of its nodes
 // that are loose then.
+#![tactic(auto)]
 ghost use Rattle.std.specs.Prelude.{◌≡◌, ◌+◌, ◌<◌, ◌≤◌, not, length, replicate};
 ghost use Rattle.std.proofs.lemmas.List.Edits.{sets};
 ghost use Rattle.le.specs.Le.{Below};
@@ -122,7 +123,7 @@ pub fn test_all(room: &mut [u8], nodes: usize) -> usize
 }
 
 // Whether one of these nodes remains.
-pub fn some_left_lem(room: &[u8], src: &[u8], r: Row, first: usize, count: usize) -> bool
+pub fn some_left(room: &[u8], src: &[u8], r: Row, first: usize, count: usize) -> bool
     requires { Holds src.now r (first + count) × Below most_nodes (span src.now r first count) × (room_cycle_breaking_nodes_scanning ≤ length room.now) }
     ensures { result ≡ some_left room.now (span src.now r first count) }
 {
@@ -160,7 +161,7 @@ fn stays(room: &[u8], src: &[u8], r: Row, e: EdgeAt, v: usize) -> bool
     if !some_left(room, src, r, e.first, e.sources) {
         return false;
     }
-    some_left_lem(room, src, r, e.first + e.sources, e.targets)
+    some_left(room, src, r, e.first + e.sources, e.targets)
 }
 
 // The edge that is vertex v goes if it must; answered is how many vertices went.

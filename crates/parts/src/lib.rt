@@ -1,5 +1,6 @@
 // The priced parts list of a drawing: how many edges are of each kind of the catalogue, how many loop buffers the choice asks for, and the exact total in hundredths of a
 // cent.
+#![tactic(auto)]
 ghost use Rattle.std.specs.Prelude.{◌≡◌, ◌+◌, ◌*◌, ◌≤◌, length};
 ghost use Rattle.std.proofs.lemmas.List.Edits.{sets};
 ghost use Rattle.le.specs.Le.{bytes, row};
@@ -28,7 +29,7 @@ const SPIDER: usize = 4294967295;
 pub const BUFFER_PRICE: u64 = 260;
 
 // A kind of part: how many sources and targets it has, and its price in hundredths of a cent.
-#[derive(Drop)]
+#[derive(Clone, Copy)]
 pub struct KindRow {
     pub sources: usize,
     pub targets: usize,
@@ -151,7 +152,7 @@ fn check_parts(src: &[u8], z: Sizes) -> Step
 }
 
 // How many edges of each kind there are, and what they cost together.
-#[derive(Drop)]
+#[derive(Clone, Copy)]
 pub struct Parts {
     pub counts: [u32; 12],
     pub total: u64,
@@ -193,7 +194,7 @@ fn count_parts(src: &[u8], z: Sizes) -> Parts
 }
 
 // A priced parts list: how many edges of each kind, how many loop buffers, and the exact total in hundredths of a cent.
-#[derive(Drop)]
+#[derive(Clone, Copy)]
 pub struct Bill {
     pub counts: [u32; 12],
     pub buffers: u32,
@@ -214,7 +215,7 @@ fn with_buffers(p: Parts, buffers: usize) -> Bill
 }
 
 // What pricing answers: a number and the list, or the refusal, and then a list of zeros beside it. (No enum may hold an array.)
-#[derive(Drop)]
+#[derive(Clone, Copy)]
 pub struct Pricing {
     pub step: Step,
     pub bill: Bill,

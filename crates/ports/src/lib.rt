@@ -1,4 +1,5 @@
 // Adding a port to an edge: a new node, at the end of the edge's sources or of its targets. One walk over the edges before it, and one copy of the numbers.
+#![tactic(auto)]
 ghost use Rattle.std.specs.Prelude.{◌≡◌, ◌+◌, ◌<◌, ◌≤◌, ◌^◌, length};
 ghost use Rattle.le.specs.Rows.{puts};
 ghost use Rattle.graph.specs.Form.{edge_start, label_row, body};
@@ -25,7 +26,7 @@ pub fn edge_index(src: &[u8], z: Sizes, edge: usize) -> usize
 }
 
 // An edge with a port more: its counts, and after how many of its ids the new one goes.
-#[derive(Drop)]
+#[derive(Clone, Copy)]
 pub struct Port {
     pub sources: usize,
     pub targets: usize,

@@ -25,14 +25,14 @@ pub const RANGE_BYTES: usize = 148;
 const NO_DRAWING: u32 = 4294967295;
 
 // The dearest drawing so far: none, or its index and what it costs.
-#[derive(Drop)]
+#[derive(Clone, Copy)]
 pub enum Dearest {
     Nothing,
     Drawing { index: u32, total: u64 },
 }
 
 // The totals of the drawings so far.
-#[derive(Drop)]
+#[derive(Clone, Copy)]
 pub struct Totals {
     pub drawings: u32,
     pub priced: u32,
@@ -44,14 +44,14 @@ pub struct Totals {
 }
 
 // A mean: whole part and remainder.
-#[derive(Drop)]
+#[derive(Clone, Copy)]
 pub struct Mean {
     pub whole: u64,
     pub rest: u32,
 }
 
 // What the range answers: a number and the totals, or the refusal, and then totals of nothing beside it.
-#[derive(Drop)]
+#[derive(Clone, Copy)]
 pub struct Ranging {
     pub step: Step,
     pub totals: Totals,

@@ -1,4 +1,5 @@
 // The queue of keys in a lent room: a binary heap of numbers of 8 bytes, the largest at the top.
+#![tactic(auto)]
 ghost use Rattle.std.specs.Prelude.{◌≡◌, ◌⊎◌, ◌+◌, ◌*◌, ◌<◌, ◌≤◌, length};
 ghost use Rattle.le.specs.Le.{words};
 ghost use Rattle.queue.specs.Keys.{Heap};
@@ -31,7 +32,7 @@ fn put_key(room: &mut [u8], base: usize, i: usize, k: u64)
 }
 
 // A key, and which it is.
-#[derive(Drop)]
+#[derive(Clone, Copy)]
 pub struct Below {
     pub index: usize,
     pub key: u64,

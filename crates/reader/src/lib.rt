@@ -1,6 +1,7 @@
 // A reader: the stored bytes and the place it has reached. Each function over it is thin: it calls the cursor function on the bytes and the place, where there is
 // something to look at, and moves the place past what it read. The borrow checker covers none of them, so each is proved by hand. The functions below them take
 // plain bytes and numbers: whoever calls one knows nothing of a reader.
+#![tactic(auto)]
 ghost use Rattle.std.specs.Prelude.{◌≡◌, ◌+◌, ◌*◌, ◌<◌, ◌≤◌, ◌^◌, max, length, drop};
 ghost use Rattle.le.specs.Le.{numbers, number_at};
 ghost use Rattle.le.specs.Rows.{row_at, Holds};
@@ -13,7 +14,7 @@ ghost use Rattle.lists.specs.Reach.{reach};
 use form::Sizes;
 use lists::{number_at, reach_of};
 
-#[derive(Drop)]
+#[derive(Clone, Copy)]
 pub struct Reader<'a> {
     pub src: &'a [u8],
     pub at: usize,
@@ -91,7 +92,7 @@ pub fn labels_end(s: &[u8], at: usize, n: usize) -> usize
 }
 
 // Ids that were read: the place after them, and how far they reach.
-#[derive(Drop)]
+#[derive(Clone, Copy)]
 pub struct Ids {
     pub end: usize,
     pub bound: usize,

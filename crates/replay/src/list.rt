@@ -10,14 +10,14 @@ pub const LOST: usize = 18446744073709551615;
 pub const NO_ROOM: u32 = 4294967295;
 
 // The bytes of the list from one place up to another.
-#[derive(Drop)]
+#[derive(Clone, Copy)]
 pub struct Part {
     pub from: usize,
     pub to: usize,
 }
 
 // The numbers of a call, and the place after them. Those that it does not take are 0.
-#[derive(Drop)]
+#[derive(Clone, Copy)]
 pub struct Numbers {
     pub count: u8,
     pub one: u32,
@@ -26,7 +26,7 @@ pub struct Numbers {
 }
 
 // The input slices of a call, or what its answer buffers must hold afterwards, and the place after them. Those that it does not take are empty.
-#[derive(Drop)]
+#[derive(Clone, Copy)]
 pub struct Parts {
     pub count: u8,
     pub one: Part,
@@ -36,7 +36,7 @@ pub struct Parts {
 }
 
 // A recorded call, and the place of the next one.
-#[derive(Drop)]
+#[derive(Clone, Copy)]
 pub struct Record {
     pub operation: u8,
     // How many numbers, input slices and answer buffers it takes: a decimal digit for each, in this order.

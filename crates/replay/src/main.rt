@@ -1,6 +1,7 @@
 // Replays a recorded list of the original's answers: makes each call of the list, compares the returned number and every byte of the answer buffers with
 // what was recorded, and says how many calls differ. tests/differential/README.md says how the list is made and how it is laid out. That a call leaves its
 // inputs as they were is not tried here: they are lent as `&`.
+#![tactic(auto)]
 mod calls;
 mod list;
 
@@ -18,7 +19,7 @@ const FILL: u8 = 165;
 const TOLD: u64 = 10;
 
 // How many calls were replayed, and how many of them differ.
-#[derive(Drop)]
+#[derive(Clone, Copy)]
 struct Tally {
     calls: u64,
     differ: u64,

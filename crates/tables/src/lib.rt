@@ -1,6 +1,7 @@
 // Where the engine's tables lie in a lent room, in words: here for code, and by the same names in specs/Tables for proofs. All follows from the limits.
 // The degrees of the halves stand first; then start and length of each half's list, the entries of the nodes' lists, the halves that wait or have waited,
 // the flags of the chosen nodes, and the queue. Between two tables lie GAP words that nothing uses, so that they do not all begin on the same cache sets.
+#![tactic(auto)]
 pub const GAP: usize = 688;
 
 pub const VERTICES: usize = graph::MAX_NODES + graph::MAX_EDGES;
