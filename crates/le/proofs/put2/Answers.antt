@@ -1,0 +1,13 @@
+-- `le::put2` meets its contract.
+-- Assumes nothing.
+use native.Mathlib.Numerals.{add-one, add-two, add-three}
+use native.Mathlib.Omega.{arith}
+use lib.ListN.{length-set}
+use borrow.Author.Rules.{rules}
+use Rattle.le.proofs.put2.Goals as goal
+
+pub bounds-d-at-2 : goal.bounds-d-at-2
+bounds-d-at-2 c = simp length-set (omega arith)
+
+pub returns : goal.returns
+returns c = simp (add-one, add-two, add-three)
