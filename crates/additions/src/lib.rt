@@ -1,5 +1,6 @@
 // Building in the tables of a room: what is new is stored behind the last entry of each table. A stored graph is loaded edge by edge in the same way.
 #![tactic(auto)]
+
 ghost use Rattle.std.specs.Prelude.{◌≡◌, [], ◌∷◌, ◌+◌, ◌*◌, ◌-◌, ◌<◌, ◌≤◌, ◌^◌, length, set};
 ghost use Rattle.std.proofs.lemmas.List.Edits.{sets};
 ghost use Rattle.le.specs.Le.{Below, words};

@@ -1,6 +1,7 @@
 // What the cost desk's programs share: amounts in cents, and the lines of the kinds and of the loop buffers, put into lent bytes one after the other. Each function answers the place
 // after what it has put, and bounds it so that the next one has room: a name takes at most 12 bytes, an amount 23, and what follows a name 46.
 #![tactic(auto)]
+
 ghost use Rattle.std.specs.Prelude.{◌++◌, ◌+◌, ◌*◌, ◌≤◌, ◌<◌, length};
 ghost use Rattle.graph.specs.Lists.{joined};
 ghost use Rattle.parts.specs.Parts.{InCatalogue};

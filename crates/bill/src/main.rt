@@ -2,6 +2,7 @@
 // one for the loop buffers, with how many there are and what they cost together, and the total; amounts in cents with two decimals. On a refusal it prints one line,
 // `refused` and the number.
 #![tactic(auto)]
+
 mod lines;
 
 ghost use Rattle.std.specs.Prelude.{◌≡◌, ◌≤◌, length};

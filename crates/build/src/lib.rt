@@ -1,6 +1,7 @@
 // Many building and deleting steps in one call: the stored graph is loaded into the tables of the room, each step changes the tables, and the last graph is written.
 // Nothing is written to the answer buffer before the last step has passed.
 #![tactic(auto)]
+
 ghost use Rattle.std.specs.Prelude.{◌≡◌, ℕ, ◌+◌, ◌*◌, ◌<◌, ◌≤◌, ◌^◌, length, get_or, drop};
 ghost use Rattle.le.specs.Le.{words, number_at, numbers};
 ghost use Rattle.le.specs.Rows.{row_at};

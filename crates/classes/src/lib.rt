@@ -1,6 +1,7 @@
 // 02, T-01: the least member of each node's class and the number of the class, found in the first words of the lent work room. Near-linear: the greater
 // root is hung under the lesser one, and each search halves the path that it takes.
 #![tactic(auto)]
+
 ghost use Rattle.std.specs.Prelude.{◌≡◌, cond, List, eqb, ℕ, ◌+◌, ◌*◌, ◌<◌, ◌≤◌, length, get_or, set};
 ghost use Rattle.le.specs.Le.{Below, words};
 ghost use Rattle.le.specs.Rows.{Holds, entry, span};

@@ -1,6 +1,7 @@
 // What of the merged graph stands in the result before any entry is rewritten: one pass counts the entries of listed nodes, which gives the result's sizes; and the merged
 // graph is copied to where it stands in the result.
 #![tactic(auto)]
+
 ghost use Rattle.std.specs.Prelude.{◌≡◌, List, ◌++◌, ℕ, ◌+◌, ◌*◌, ◌≤◌, length, replicate};
 ghost use Rattle.le.specs.Le.{Below, words};
 ghost use Rattle.le.specs.Rows.{Holds, puts};

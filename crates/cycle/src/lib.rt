@@ -1,6 +1,7 @@
 // The choice of cycle-breaking nodes, with kept nodes and without, and the no-loop check, from cycle.rs: after the first free removal each stage takes the top of the
 // queue, once it agrees with the present degrees, and then all that may go freely.
 #![tactic(auto)]
+
 ghost use Rattle.std.specs.Prelude.{◌≡◌, ℕ, ◌+◌, ◌-◌, ◌*◌, ◌/◌, ◌<◌, ◌≤◌, ◌^◌, T, length, get_or};
 ghost use Rattle.tables.specs.Tables.{most_nodes, most_vertices, picked_at, queue_at, room_removal, room_choice};
 ghost use Rattle.le.specs.Le.{words, Wide, Below};

@@ -1,6 +1,7 @@
 // Deleting edges and nodes: document 01's modules 2 and 3, after `delete_edges` and `delete_nodes_witness` of hypergraph.rs and `delete_nodes` of
 // open_hypergraph.rs. The ids that go are marked in the work room, one byte for each; a first pass counts what stays, a second one writes it.
 #![tactic(auto)]
+
 ghost use Rattle.std.specs.Prelude.{length};
 ghost use Rattle.graph.specs.Calls.{delete_edges_call, delete_nodes_call};
 ghost use Rattle.form.specs.Form.{Gives, GivesMap};

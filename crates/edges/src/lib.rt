@@ -1,5 +1,6 @@
 // The edges of a stored form, one after the other, with refusals 5 and 4; and the place of the first id that is no node's.
 #![tactic(auto)]
+
 ghost use Rattle.std.specs.Prelude.{◌≡◌, ℕ, ◌+◌, ◌*◌, ◌<◌, ◌≤◌, ◌^◌, List, length, drop};
 ghost use Rattle.le.specs.Le.{number_at};
 ghost use Rattle.le.specs.Rows.{row_at, Holds};

@@ -1,6 +1,7 @@
 // What the stored form is in code: its versions, the sizes of a graph and the rows of numbers that follow from them, one walk over the edges, and what steps and
 // calls answer. Nothing is decoded: a graph is its bytes and its sizes.
 #![tactic(auto)]
+
 ghost use Rattle.std.specs.Prelude.{◌≡◌, ◌+◌, ◌-◌, ◌^◌};
 ghost use Rattle.graph.specs.Graph as graph;
 ghost use Rattle.graph.specs.Graph.{counts_fit, sizes_fit};

@@ -1,5 +1,6 @@
 // The ids that go are marked in the work room, one byte for each; and what stays is counted: the sizes of the graph without its marked edges or nodes.
 #![tactic(auto)]
+
 ghost use Rattle.std.specs.Prelude.{◌≡◌, cond, ℕ, ◌+◌, ◌*◌, ◌<◌, ◌≤◌, map as each, length};
 ghost use Rattle.le.specs.Le.{Below};
 ghost use Rattle.le.specs.Rows.{Holds, span};

@@ -1,5 +1,6 @@
 // The header of a stored form: its mark and version, with refusals 1 to 3, and its counts, with 5 and 4.
 #![tactic(auto)]
+
 ghost use Rattle.std.specs.Prelude.{◌≡◌, ◌≤◌, length, take};
 ghost use Rattle.le.specs.Le.{Wide};
 ghost use Rattle.graph.specs.Lists.{same};

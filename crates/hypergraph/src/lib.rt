@@ -1,5 +1,6 @@
 // Building graphs: each call reads a stored graph, checks what it was given, and writes the new graph. Nothing is written before every check has passed.
 #![tactic(auto)]
+
 ghost use Rattle.std.specs.Prelude.{◌≡◌, ◌+◌, ◌<◌, ◌≤◌, ◌^◌, length};
 ghost use Rattle.graph.specs.Form.{label_row, body};
 ghost use Rattle.graph.specs.Build as build;

@@ -1,6 +1,7 @@
 // The incidence graph of a stored drawing, in the tables of a lent room: the degree of each half, and where its list starts and how long it is. The lists of
 // an edge are its ids in the form; those of the nodes are counted, laid out one after the other, and filled.
 #![tactic(auto)]
+
 ghost use Rattle.std.specs.Prelude.{◌≡◌, ℕ, ◌+◌, ◌-◌, ◌*◌, ◌<◌, ◌≤◌, ◌^◌, length, get_or, take, replicate};
 ghost use Rattle.std.proofs.lemmas.List.Edits.{sets};
 ghost use Rattle.le.specs.Le.{words};

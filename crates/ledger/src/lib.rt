@@ -3,6 +3,7 @@
 // 2 e + 1 its targets. Deleting filters and renames each table where it stands, by a map of the new ids.
 // Where the tables lie, in words. The log: half and node of each port.
 #![tactic(auto)]
+
 pub const LOG: usize = 0;
 
 // The next port of the same half, and the first of each half: the number of the port counted from 1, or 0.

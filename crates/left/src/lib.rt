@@ -1,5 +1,6 @@
 // What is left is written: labels and edges, and the graph without its marked edges.
 #![tactic(auto)]
+
 ghost use Rattle.std.specs.Prelude.{◌≡◌, cond, ℕ, ◌+◌, ◌<◌, ◌≤◌, [], ◌∷◌, length};
 ghost use Rattle.le.specs.Rows.{Holds, entry, span};
 ghost use Rattle.graph.specs.Lists.{joined};

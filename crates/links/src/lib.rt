@@ -2,6 +2,7 @@
 // The room is a row of cells. Node x has the four cells from 4 x on, one for each kind of entry: the fresh node that came last, 0 where there is none.
 // A node that is not listed has the highest number of a cell there. Fresh node f has the cell at 3 nodes + f: the fresh node before it in its chain, or 0.
 #![tactic(auto)]
+
 ghost use Rattle.std.specs.Prelude.{◌≡◌, true, false, List, [], ◌∷◌, ◌++◌, ℕ, ◌+◌, ◌*◌, ◌-◌, ◌<◌, ◌≤◌, ◌^◌, length, get_or, set, replicate};
 ghost use Rattle.std.proofs.lemmas.List.Edits.{sets};
 ghost use Rattle.le.specs.Rows.{Holds, puts};

@@ -1,6 +1,7 @@
 // Ids where they stand in bytes: how far those of a row reach, and which is the first that is not below a bound. Above them the checks that calls make of
 // their lists and numbers (7, 8, 10).
 #![tactic(auto)]
+
 ghost use Rattle.std.specs.Prelude.{◌≡◌, ◌+◌, ◌<◌, ◌^◌, max, leb, length, drop};
 ghost use Rattle.le.specs.Le.{Wide, numbers, number_at};
 ghost use Rattle.le.specs.Rows.{row_at, Holds, span};

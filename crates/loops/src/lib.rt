@@ -2,6 +2,7 @@
 // is met again. A slice is handed to a function by the address of a pointer and a length on the caller's stack, so that a call that hands one on can't be a jump. The
 // two steps take references to slices instead, and mark what was visited in an array: their calls are jumps, and the deepest walk takes no more stack than the shortest.
 #![tactic(auto)]
+
 ghost use Rattle.std.specs.Prelude.{◌≡◌, ℕ, ◌+◌, ◌-◌, ◌*◌, ◌<◌, ◌≤◌, ◌∷◌, ltb, length};
 ghost use Rattle.le.specs.Le.{words, Wide};
 ghost use Rattle.le.specs.Rows.{Holds, row_at, span};

@@ -2,6 +2,7 @@
 // An edge has no degrees: its entries that remain are looked up in the form. One without a source or without a target that remains goes, and at once those of its nodes
 // that are loose then.
 #![tactic(auto)]
+
 ghost use Rattle.std.specs.Prelude.{◌≡◌, ◌+◌, ◌<◌, ◌≤◌, not, length, replicate};
 ghost use Rattle.std.proofs.lemmas.List.Edits.{sets};
 ghost use Rattle.le.specs.Le.{Below};

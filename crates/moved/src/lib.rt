@@ -1,5 +1,6 @@
 // The map that says where each node goes, and what is left is written with its new ids: the graph without its marked nodes.
 #![tactic(auto)]
+
 ghost use Rattle.std.specs.Prelude.{◌≡◌, cond, ℕ, ◌+◌, ◌*◌, ◌-◌, ◌<◌, ◌≤◌, ◌^◌, [], ◌∷◌, map as each, length};
 ghost use Rattle.le.specs.Le.{Below};
 ghost use Rattle.le.specs.Rows.{Holds, span, puts};

@@ -1,5 +1,6 @@
 // The check that needs no search: once-fed, by the rule of T-09.
 #![tactic(auto)]
+
 ghost use Rattle.std.specs.Prelude.{◌≡◌, cond, not, ◌+◌, ◌/◌, ◌%◌, ◌<◌, ◌≤◌, eqb, length, get_or, set};
 ghost use Rattle.le.specs.Le.{Below};
 ghost use Rattle.le.specs.Rows.{Holds, span};

@@ -1,5 +1,6 @@
 // Open graphs from nothing: nodes as they are, and one operation with its ends open.
 #![tactic(auto)]
+
 ghost use Rattle.std.specs.Prelude.{◌≡◌, ◌+◌, ◌≤◌, length};
 ghost use Rattle.graph.specs.Form.{label_row, body};
 ghost use Rattle.graph.specs.Build as build;

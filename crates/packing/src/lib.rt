@@ -1,5 +1,6 @@
 // What an exported function returns: code, a and b packed into one number.
 #![tactic(auto)]
+
 ghost use Rattle.std.specs.Prelude.{◌≡◌, min};
 ghost use Rattle.packing.specs.Packed.{packed_outcome, Packs};
 

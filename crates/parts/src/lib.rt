@@ -1,6 +1,7 @@
 // The priced parts list of a drawing: how many edges are of each kind of the catalogue, how many loop buffers the choice asks for, and the exact total in hundredths of a
 // cent.
 #![tactic(auto)]
+
 ghost use Rattle.std.specs.Prelude.{◌≡◌, ◌+◌, ◌*◌, ◌≤◌, length};
 ghost use Rattle.std.proofs.lemmas.List.Edits.{sets};
 ghost use Rattle.le.specs.Le.{bytes, row};

@@ -1,5 +1,6 @@
 // The pieces of a form that building writes: what is copied from a stored graph, and what is new in it.
 #![tactic(auto)]
+
 ghost use Rattle.std.specs.Prelude.{◌≡◌, ℕ, ◌+◌, ◌-◌, ◌<◌, ◌≤◌, ◌^◌, List, [], ◌∷◌, ◌++◌, map, length};
 ghost use Rattle.le.specs.Rows.{Holds, puts, span};
 ghost use Rattle.graph.specs.Lists.{joined};

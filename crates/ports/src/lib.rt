@@ -1,5 +1,6 @@
 // Adding a port to an edge: a new node, at the end of the edge's sources or of its targets. One walk over the edges before it, and one copy of the numbers.
 #![tactic(auto)]
+
 ghost use Rattle.std.specs.Prelude.{◌≡◌, ◌+◌, ◌<◌, ◌≤◌, ◌^◌, length};
 ghost use Rattle.le.specs.Rows.{puts};
 ghost use Rattle.graph.specs.Form.{edge_start, label_row, body};

@@ -1,5 +1,6 @@
 // The library above the port, as C calls it: the priced parts list of a drawing, and the report on a range of drawings.
 #![tactic(auto)]
+
 pub mod range;
 
 ghost use Rattle.std.specs.Prelude.{length};

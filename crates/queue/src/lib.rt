@@ -1,5 +1,6 @@
 // The queue of keys in a lent room: a binary heap of numbers of 8 bytes, the largest at the top.
 #![tactic(auto)]
+
 ghost use Rattle.std.specs.Prelude.{◌≡◌, ◌⊎◌, ◌+◌, ◌*◌, ◌<◌, ◌≤◌, length};
 ghost use Rattle.le.specs.Le.{words};
 ghost use Rattle.queue.specs.Keys.{Heap};

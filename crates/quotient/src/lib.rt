@@ -1,6 +1,7 @@
 // 02, T-01: the pending pairs carried out, after `quotient` of both Rust files. The map of the classes stands in the work room, a word for each node; since the
 // classes keep the sizes of edges and lists, each count and id is written at the index where it was read.
 #![tactic(auto)]
+
 ghost use Rattle.std.specs.Prelude.{◌≡◌, cond, [], ◌∷◌, map as each, ◌+◌, ◌*◌, ◌≤◌, eqb, length, get_or};
 ghost use Rattle.le.specs.Le.{Below, words};
 ghost use Rattle.le.specs.Rows.{Holds, entry, span};

@@ -2,6 +2,7 @@
 // were priced, how many refused by each number that occurs, a line for each kind of the catalogue and one for the loop buffers, the sum, the dearest and the mean; amounts in cents with two
 // decimals. On a refusal of the slice it prints one line, `refused` and the number.
 #![tactic(auto)]
+
 mod lines;
 
 ghost use Rattle.std.specs.Prelude.{◌≡◌, ◌≤◌, length};

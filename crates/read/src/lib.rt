@@ -1,5 +1,6 @@
 // Reading: any bytes of any version of the stored form, with refusals 1 to 6 and 13.
 #![tactic(auto)]
+
 ghost use Rattle.std.specs.Prelude.{◌≡◌, ℕ, ◌≤◌, min, List, length, drop};
 ghost use Rattle.le.specs.Le.{Wide, numbers};
 ghost use Rattle.graph.specs.Graph.{Edge, edge_entries, Within, Usable};

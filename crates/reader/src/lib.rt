@@ -2,6 +2,7 @@
 // something to look at, and moves the place past what it read. The borrow checker covers none of them, so each is proved by hand. The functions below them take
 // plain bytes and numbers: whoever calls one knows nothing of a reader.
 #![tactic(auto)]
+
 ghost use Rattle.std.specs.Prelude.{◌≡◌, ◌+◌, ◌*◌, ◌<◌, ◌≤◌, ◌^◌, max, length, drop};
 ghost use Rattle.le.specs.Le.{numbers, number_at};
 ghost use Rattle.le.specs.Rows.{row_at, Holds};

@@ -2,6 +2,7 @@
 // no arc out: it leads to none. The second part leaves every other vertex its arcs in, so each part is done once a stage. Each entry is written where it belongs as
 // soon as it is known.
 #![tactic(auto)]
+
 ghost use Rattle.std.specs.Prelude.{◌≡◌, [], ◌∷◌, ◌+◌, ◌-◌, ◌*◌, ◌<◌, ◌≤◌, ◌^◌, length, get_or};
 ghost use Rattle.le.specs.Le.{words, Outside};
 ghost use Rattle.tables.specs.Tables.{most_vertices, waiting_at, queue_at, room_removal, room_choice};

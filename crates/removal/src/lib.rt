@@ -1,5 +1,6 @@
 // Half vertices in a lent room: arcs that go, and vertices that go freely.
 #![tactic(auto)]
+
 ghost use Rattle.std.specs.Prelude.{◌≡◌, ◌-◌, ◌+◌, ◌*◌, ◌%◌, ◌<◌, ◌≤◌, min, length};
 ghost use Rattle.le.specs.Le.{words};
 ghost use Rattle.le.specs.Rows.{Holds};

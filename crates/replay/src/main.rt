@@ -2,6 +2,7 @@
 // what was recorded, and says how many calls differ. tests/differential/README.md says how the list is made and how it is laid out. That a call leaves its
 // inputs as they were is not tried here: they are lent as `&`.
 #![tactic(auto)]
+
 mod calls;
 mod list;
 

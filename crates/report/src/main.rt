@@ -1,6 +1,7 @@
 // The report on a drawing. Reads a stored form of version 1 from standard input and prints its mark and version, its sizes, how many nodes are cut and how many vertices
 // were removed freely, and then the cut ids, one a line. On a refusal it prints one line, `refused` and the number.
 #![tactic(auto)]
+
 mod lines;
 
 ghost use Rattle.std.specs.Prelude.{◌≡◌, ◌≤◌, length};

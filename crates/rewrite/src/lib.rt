@@ -1,5 +1,6 @@
 // A stored graph read, and read and written: the calls of document 01's module 1.
 #![tactic(auto)]
+
 ghost use Rattle.std.specs.Prelude.{[], ◌∷◌, ◌≡◌, ◌≤◌, length};
 ghost use Rattle.le.specs.Rows.{row_at, puts};
 ghost use Rattle.graph.specs.Calls.{read_call, rewrite_call};

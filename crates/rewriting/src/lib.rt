@@ -1,6 +1,7 @@
 // The pass of spiderizing: every entry of a listed node gets a fresh node. The merged graph stands in the result; one pass rewrites its lists there while it numbers the
 // entries, writes the label of each fresh node and links it to the one before it of the same node and kind; two spiders for each listed node are read off these chains.
 #![tactic(auto)]
+
 ghost use Rattle.std.specs.Prelude.{◌≡◌, [], ◌∷◌, ◌+◌, ◌<◌, length};
 ghost use Rattle.le.specs.Rows.{entry, puts};
 ghost use Rattle.graph.specs.Lists.{joined};

@@ -1,6 +1,7 @@
 // The choice of cycle-breaking nodes without a queue, a waiting list or lists of arcs: one byte for each vertex, the two degrees of each node and a hint for each edge are
 // all that it keeps. Sweeps leave nothing loose; then one pass over the nodes finds the best.
 #![tactic(auto)]
+
 ghost use Rattle.std.specs.Prelude.{◌≡◌, ℕ, ◌+◌, ◌<◌, ◌≤◌, List, ltb, length};
 ghost use Rattle.le.specs.Le.{Below, Wide};
 ghost use Rattle.le.specs.Rows.{Holds, row_at, span, puts};

@@ -1,6 +1,7 @@
 // Spiderizing: joined nodes are merged, and then the implicit wiring of listed nodes is made explicit. Every entry of a listed node gets a fresh node, and two
 // spiders for each listed node join what the fresh nodes took apart.
 #![tactic(auto)]
+
 ghost use Rattle.std.specs.Prelude.{◌≡◌, true, false, ℕ, ◌*◌, ◌<◌, ◌≤◌, length, get_or, replicate};
 ghost use Rattle.std.proofs.lemmas.List.Edits.{sets};
 ghost use Rattle.le.specs.Le.{Below, words};

@@ -1,6 +1,7 @@
 // The sweeps of the scanning engine. A sweep passes over the edges: one without a source or without a target that remains goes, and at once those of its nodes that are
 // loose then. A hint for each edge says where to look first. A sweep in which no node goes leaves nothing loose.
 #![tactic(auto)]
+
 ghost use Rattle.std.specs.Prelude.{◌≡◌, ◌+◌, ◌<◌, ◌≤◌, ◌^◌, true, false, ltb, length};
 ghost use Rattle.le.specs.Le.{Below};
 ghost use Rattle.le.specs.Rows.{Holds, span};

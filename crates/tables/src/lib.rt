@@ -2,6 +2,7 @@
 // The degrees of the halves stand first; then start and length of each half's list, the entries of the nodes' lists, the halves that wait or have waited,
 // the flags of the chosen nodes, and the queue. Between two tables lie GAP words that nothing uses, so that they do not all begin on the same cache sets.
 #![tactic(auto)]
+
 pub const GAP: usize = 688;
 
 pub const VERTICES: usize = graph::MAX_NODES + graph::MAX_EDGES;

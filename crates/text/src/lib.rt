@@ -1,6 +1,7 @@
 // What the programs share: texts put into lent bytes one after the other, and whether the input has ended. Each function that puts something answers the place after it,
 // and bounds it so that the next one has room: a number takes at most 20 bytes.
 #![tactic(auto)]
+
 ghost use Rattle.std.specs.Prelude.{◌++◌, ◌+◌, ◌≤◌, length};
 ghost use Rattle.io.specs.Counts.{IsPrefixLen};
 ghost use Rattle.text.specs.Text.{Printed, decimal, refused_line};

@@ -1,6 +1,7 @@
 // The pieces that writers share: the size of a result (refusals 9 and 10), its header, and numbers put into its rows. What is copied is copied as numbers, so a
 // result may have another width than what was read.
 #![tactic(auto)]
+
 ghost use Rattle.std.specs.Prelude.{◌≡◌, [], ◌∷◌, ◌++◌, ◌+◌, ◌*◌, ◌≤◌, ◌<◌, ◌^◌, length};
 ghost use Rattle.std.proofs.lemmas.List.Edits.{sets};
 ghost use Rattle.le.specs.Le.{bytes};

@@ -1,0 +1,17 @@
+-- What the loops of `classes::find` keep.
+-- Assumes nothing.
+use mathlib.Core.Path.{◌≡◌, refl, sym, ◌∙◌, subst}
+use Prim.Native.Nat.{ℕ, ◌≤◌, ◌<◌}
+use native.Mathlib.Omega.{arith}
+use mathlib.Core.List.{List}
+use lib.ListN.{length, get_or, set}
+use Rattle.le.specs.Le.{words}
+use Rattle.classes.specs.Forest.{Climbed}
+use Rattle.classes.proofs.Trees.{words_fit, climb_start, climb_inside, climb_step, climb_done}
+use Rattle.classes.proofs.find.Given as goal
+
+abbrev pub invariant-loop-p : goal.invariant-loop-p
+invariant-loop-p l = Climbed l.n (words l.initial.room) (words l.room) l.v l.x × (l.p ≡ get_or (words l.room) l.x 0) × (length l.room ≡ length l.initial.room)
+
+abbrev pub decreases-loop-p : goal.decreases-loop-p
+decreases-loop-p l = l.x

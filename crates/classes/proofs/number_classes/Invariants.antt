@@ -1,0 +1,18 @@
+-- What the loops of `classes::number_classes` keep.
+-- Assumes nothing.
+use mathlib.Core.Path.{◌≡◌, refl, ◌∙◌, subst}
+use Prim.Native.Nat.{ℕ, ◌-◌, ◌≤◌, ◌<◌}
+use native.Mathlib.Nat.{le_antisymm}
+use native.Mathlib.Omega.{arith}
+use lib.ListN.{length}
+use Rattle.le.specs.Le.{words}
+use Rattle.classes.specs.Forest.{Counted}
+use Rattle.classes.proofs.Numbering.{count_start, count_low, count_turn, count_done}
+use Rattle.classes.proofs.Trees.{words_fit}
+use Rattle.classes.proofs.number_classes.Given as goal
+
+abbrev pub invariant-loop-k : goal.invariant-loop-k
+invariant-loop-k l = (l.k ≤ l.n) × Counted l.n (words l.initial.room) (words l.room) l.k l.count × (length l.room ≡ length l.initial.room)
+
+abbrev pub decreases-loop-k : goal.decreases-loop-k
+decreases-loop-k l = l.n - l.k

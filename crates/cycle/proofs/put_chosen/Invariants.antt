@@ -1,0 +1,19 @@
+-- What the loops of `cycle::put_chosen` keep.
+-- Assumes nothing.
+use mathlib.Core.Path.{◌≡◌, refl, sym, ap, ◌∙◌}
+use Prim.Native.Nat.{◌≤◌, ◌-◌}
+use native.Mathlib.Nat.{le_antisymm}
+use native.Mathlib.Omega.{arith}
+use lib.ListN.{length-append, length}
+use Rattle.cycle.specs.Begin.{shown, flagged_below}
+use Rattle.le.specs.Le.{words}
+use Rattle.le.specs.Rows.{puts}
+use Rattle.le.proofs.Rows.{holds_less, holds_same, puts_none}
+use Rattle.cycle.proofs.Flags.{flagged_next, flagged_fits, flagged_turn}
+use Rattle.cycle.proofs.put_chosen.Given as goal
+
+abbrev pub invariant-loop-v : goal.invariant-loop-v
+invariant-loop-v l = (l.v ≤ l.nodes) × (l.k ≡ length (flagged_below (words l.room) l.v)) × (l.list ≡ puts l.initial.list l.r 0 (flagged_below (words l.room) l.v)) × (length l.list ≡ length l.initial.list)
+
+abbrev pub decreases-loop-v : goal.decreases-loop-v
+decreases-loop-v l = l.nodes - l.v

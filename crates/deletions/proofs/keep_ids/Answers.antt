@@ -1,0 +1,43 @@
+-- `deletions::keep_ids` meets its contract.
+-- Assumes nothing.
+use mathlib.Core.Bool.{true}
+use mathlib.Core.Logic.{inr}
+use mathlib.Core.Path.{◌≡◌, refl, ◌∙◌, subst}
+use Prim.Native.Nat.{ℕ, ◌+◌, ◌-◌, ◌≤◌}
+use native.Mathlib.Nat.{le_antisymm}
+use lib.ListN.{length, get_or}
+use Rattle.le.specs.Le.{words}
+use Rattle.le.proofs.Numbers.{below_at}
+use Rattle.le.proofs.Places.{length_words}
+use Rattle.ledger.specs.Tables.{map_size}
+use Rattle.ledger.specs.Ledger.{words_in}
+use Rattle.ledger.specs.Left.{WordsLeft}
+use Rattle.ledger.proofs.Words.{length_words_in, words_at}
+use Rattle.ledger.proofs.Sifting.{words_begun, words_turned}
+use native.Mathlib.Omega.{arith}
+use Rattle.deletions.proofs.keep_ids.Goals as goal
+
+pub loop-k-init : goal.loop-k-init
+loop-k-init c = let a = c.args in (omega arith, words_begun (words a.room.now) true a.off, refl)
+
+pub keep_id-to-requires : goal.keep_id-to-requires
+keep_id-to-requires c =
+    let a = c.args in
+    let l = c.loop-k in
+    let W = words a.room.now in
+    let same : get_or (words l.room) (a.off + l.k) 0 ≡ get_or W (a.off + l.k) 0 = l.invariant.1.frame.same (a.off + l.k) (inr (omega arith)) in
+    let at = words_at W a.off a.n l.k (omega arith) in
+    (omega (arith, same, at, below_at map_size (words_in W a.off a.n) l.k c.requires.0 (omega (arith, length_words_in W a.off a.n))), l.invariant.1.few, omega (arith, c.requires.1), omega (arith, c.requires.2, l.invariant.2))
+
+pub loop-k-preserved : goal.loop-k-preserved
+loop-k-preserved c =
+    let a = c.args in
+    let l = c.loop-k in
+    let o = c.keep_id-to in
+    (omega arith, words_turned (words a.room.now) (words l.room) (words o.new.0) true a.off l.k l.to o.result l.invariant.1 (omega (arith, c.requires.1, c.requires.2, length_words a.room.now)) (omega (arith, c.requires.1)) o.ensures.words o.ensures.next, o.auto.0 ∙ l.invariant.2)
+
+pub returns : goal.returns
+returns c =
+    let a = c.args in
+    let l = c.loop-k in
+    subst (λ (k : ℕ). WordsLeft (words a.room.now) (words l.room) true a.off k l.to) (le_antisymm l.invariant.0 c.loop-k-test.false) l.invariant.1

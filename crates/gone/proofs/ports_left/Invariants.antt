@@ -1,0 +1,27 @@
+-- What the loops of `gone::ports_left` keep.
+-- Assumes nothing.
+use mathlib.Core.List.{List, ◌++◌, map}
+use Prim.Native.Nat.{ℕ, ◌-◌, ◌≤◌}
+use mathlib.Core.Path.{◌≡◌, refl, sym, ap, ◌∙◌}
+use lib.ListN.{length, take}
+use Rattle.gone.specs.Marks.{marked}
+use Rattle.form.specs.Stored.{graph_of}
+use Rattle.form.specs.declared.Sizes.{Sizes}
+use Rattle.graph.specs.Delete.{renamed, renamed_edge}
+use Rattle.graph.specs.Form.{edge_start}
+use Rattle.graph.specs.Graph.{Edge, edge_entries}
+use Rattle.form.proofs.Stored.{stored_rows}
+use Rattle.le.proofs.Rows.{holds_index}
+use Rattle.write.proofs.Edges.{edge_no, Met, met, edge_held, ids_below, all_edges, edge_less}
+use Rattle.write.proofs.Grows.{count_more}
+use Rattle.gone.proofs.Grows.{renamed_append, moved_grow}
+use borrow.Author.Rules.{rules}
+use native.Mathlib.Omega.{arith}
+use Rattle.gone.proofs.ports_left.Given as goal
+
+abbrev pub invariant-loop-i : goal.invariant-loop-i
+invariant-loop-i l = (l.i ≤ l.i-end) × (l.ports ≤ l.k) × (l.k ≡ edge_start (graph_of l.src).edges l.i)
+    × (l.ports ≡ length (edge_entries (map (renamed_edge (marked l.room (length (graph_of l.src).labels))) (take l.i (graph_of l.src).edges))))
+
+abbrev pub decreases-loop-i : goal.decreases-loop-i
+decreases-loop-i l = l.i-end - l.i

@@ -1,0 +1,7 @@
+-- `grouping::node_of` meets its contract.
+-- Assumes nothing.
+use native.Mathlib.Omega.{arith}
+use Rattle.grouping.proofs.node_of.Goals as goal
+
+pub returns : goal.returns
+returns c = (c.word.ensures, omega arith)

@@ -1,0 +1,8 @@
+-- `grouping::table` meets its contract.
+-- Assumes nothing.
+use mathlib.Core.Path.{refl}
+use native.Mathlib.Omega.{arith}
+use Rattle.grouping.proofs.table.Goals as goal
+
+pub returns : goal.returns
+returns c = refl

@@ -1,0 +1,60 @@
+-- `incidence::append_ids` meets its contract.
+-- Assumes nothing.
+use mathlib.Core.List.{List}
+use mathlib.Core.Path.{sym, ap, ◌∙◌, subst}
+use Prim.Native.Nat.{ℕ, ◌+◌, ◌-◌, ◌<◌}
+use native.Mathlib.Nat.{add-zero}
+use native.Mathlib.Omega.{arith}
+use Rattle.le.specs.Le.{words}
+use Rattle.le.proofs.Rows.{holds_less}
+use Rattle.choice.specs.Arcs.{In}
+use Rattle.removal.specs.Room.{source, form_list}
+use Rattle.incidence.specs.Incidence.{appended_all}
+use Rattle.incidence.proofs.Parts.{Fits, no_appended, in_first, in_rest, appended_parts, fits_first, fits_rest}
+use borrow.Author.Rules.{rules}
+use Rattle.incidence.proofs.append_ids.Goals as goal
+
+pub returns-then-count-eq0 : goal.returns-then-count-eq0
+returns-then-count-eq0 c =
+    let a = c.args in
+    no_appended (source a.src.now a.r) a.first a.side a.t (words a.room.now) ∙ ap (λ (n : ℕ). appended_all (form_list (source a.src.now a.r) a.first n a.side) a.t (words a.room.now)) (sym c.if-count-eq0.true)
+
+pub append_some-requires : goal.append_some-requires
+append_some-requires c =
+    let a = c.args in
+    let some : 0 < a.count = omega (arith, c.if-count-eq0.false) in
+    let q = source a.src.now a.r in record {
+      holds = (holds_less c.requires.holds.0 _ (omega arith), omega arith, omega arith, omega arith);
+      all_low = (
+        λ y m. c.requires.all_low.0 y (in_first q a.first a.count a.side some y (subst (λ (k : ℕ). In y (form_list q k 1 a.side)) (add-zero a.first) m)),
+        subst (λ (k : ℕ). Fits (form_list q k 1 a.side) 1 a.t (words a.room.now)) (sym (add-zero a.first)) (fits_first q a.first a.count a.side some a.t (words a.room.now) c.requires.all_low.1),
+      ).0;
+      by_index = (
+        λ y m. c.requires.all_low.0 y (in_first q a.first a.count a.side some y (subst (λ (k : ℕ). In y (form_list q k 1 a.side)) (add-zero a.first) m)),
+        subst (λ (k : ℕ). Fits (form_list q k 1 a.side) 1 a.t (words a.room.now)) (sym (add-zero a.first)) (fits_first q a.first a.count a.side some a.t (words a.room.now) c.requires.all_low.1),
+      ).1;
+    }
+
+pub append_some-requires-2 : goal.append_some-requires-2
+append_some-requires-2 c =
+    let a = c.args in
+    let o = c.append_some in
+    let some : 0 < a.count = omega (arith, c.if-count-eq0.false) in
+    let q = source a.src.now a.r in record {
+      holds = (holds_less c.requires.holds.0 _ (omega arith), omega arith, omega arith, omega (arith, o.auto.0));
+      all_low = (
+        λ y m. c.requires.all_low.0 y (in_rest q a.first a.count a.side some y m),
+        subst (λ (X : List ℕ). Fits (form_list q (a.first + 1) (a.count - 1) a.side) (a.count - 1) a.t X) (sym (o.ensures ∙ ap (λ (k : ℕ). appended_all (form_list q k 1 a.side) a.t (words a.room.now)) (add-zero a.first))) (fits_rest q a.first a.count a.side some a.t (words a.room.now) c.requires.all_low.1),
+      ).0;
+      by_index = (
+        λ y m. c.requires.all_low.0 y (in_rest q a.first a.count a.side some y m),
+        subst (λ (X : List ℕ). Fits (form_list q (a.first + 1) (a.count - 1) a.side) (a.count - 1) a.t X) (sym (o.ensures ∙ ap (λ (k : ℕ). appended_all (form_list q k 1 a.side) a.t (words a.room.now)) (add-zero a.first))) (fits_rest q a.first a.count a.side some a.t (words a.room.now) c.requires.all_low.1),
+      ).1;
+    }
+
+pub returns : goal.returns
+returns c =
+    let a = c.args in
+    let some : 0 < a.count = omega (arith, c.if-count-eq0.false) in
+    let q = source a.src.now a.r in
+    c.append_some-2.ensures ∙ ap (λ (X : List ℕ). appended_all (form_list q (a.first + 1) (a.count - 1) a.side) a.t X) (c.append_some.ensures ∙ ap (λ (k : ℕ). appended_all (form_list q k 1 a.side) a.t (words a.room.now)) (add-zero a.first)) ∙ appended_parts q a.first a.count a.side some a.t (words a.room.now)

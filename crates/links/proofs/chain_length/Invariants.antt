@@ -1,0 +1,16 @@
+-- What the loops of `links::chain_length` keep.
+-- Assumes nothing.
+use mathlib.Core.List.{List, [], ◌∷◌}
+use mathlib.Core.Path.{◌≡◌, refl, sym, ap, ◌∙◌}
+use Prim.Native.Nat.{ℕ, ◌+◌, ◌*◌, ◌<◌}
+use lib.ListN.{length}
+use Rattle.links.specs.Links.{cell_count}
+use Rattle.links.proofs.Chains.{Going, Turned, going_start, going_turn, going_done, starts_at}
+use native.Mathlib.Omega.{arith}
+use Rattle.links.proofs.chain_length.Given as goal
+
+abbrev pub invariant-loop-f : goal.invariant-loop-f
+invariant-loop-f l = (passed : List ℕ) × Going l.nodes l.room l.initial.f l.f passed × (l.n ≡ length passed)
+
+abbrev pub decreases-loop-f : goal.decreases-loop-f
+decreases-loop-f l = l.f

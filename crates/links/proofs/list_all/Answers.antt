@@ -1,0 +1,11 @@
+-- `links::list_all` meets its contract.
+-- Assumes nothing.
+use mathlib.Core.Bool.{true}
+use Rattle.links.specs.Links.{cells}
+use Rattle.links.proofs.Cells.{length_cells, all_filled}
+use borrow.Author.Rules.{rules}
+use native.Mathlib.Omega.{arith}
+use Rattle.links.proofs.list_all.Goals as goal
+
+pub returns : goal.returns
+returns c = let a = c.args in rw c.fill.ensures (all_filled (cells a.room.now) a.nodes true (omega (arith, length_cells a.room.now)))

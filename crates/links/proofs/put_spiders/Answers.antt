@@ -1,0 +1,41 @@
+-- `links::put_spiders` meets its contract.
+-- Assumes nothing.
+use mathlib.Core.List.{List}
+use mathlib.Core.Path.{◌≡◌, refl, ◌∙◌, subst}
+use Prim.Native.Nat.{ℕ, ◌-◌, ◌≤◌}
+use native.Mathlib.Nat.{le_antisymm}
+use lib.ListN.{length}
+use Rattle.le.proofs.Rows.{holds_less, holds_same}
+use Rattle.links.specs.Links.{cells, Table, spiders}
+use Rattle.write.specs.Write.{Put}
+use Rattle.write.proofs.Results.{put_none, put_then}
+use Rattle.links.proofs.Spiders.{spiders_more, spiders_room}
+use native.Mathlib.Omega.{arith}
+use Rattle.links.proofs.put_spiders.Goals as goal
+
+pub loop-id-init : goal.loop-id-init
+loop-id-init c = (omega arith, refl, λ fresh t. put_none)
+
+pub put_spider-k-requires : goal.put_spider-k-requires
+put_spider-k-requires c =
+    let a = c.args in
+    let p = c.requires.1 in
+    let l = c.loop-id in
+    let less = c.loop-id-test.true in
+    let next = (l.invariant.2 p.0 p.1).next in
+    let room = spiders_room a.nodes (cells a.room.now) p.0 l.id less in
+    (less, omega arith, (p.0, p.1, holds_same (holds_less p.2 _ (omega arith)) l.out l.invariant.1))
+
+pub loop-id-preserved : goal.loop-id-preserved
+loop-id-preserved c =
+    let a = c.args in
+    let l = c.loop-id in
+    let f = c.put_spider-k in
+    (omega arith, f.auto.1.1.1.0 ∙ l.invariant.1, λ fresh t. rw (spiders_more a.nodes (cells a.room.now) fresh l.id) (put_then (l.invariant.2 fresh t) (f.ensures fresh t)))
+
+pub returns : goal.returns
+returns c = λ fresh t.
+    let l = c.loop-id in
+    let e = le_antisymm l.invariant.0 c.loop-id-test.false in
+    let a = c.args in
+    subst (λ (n : ℕ). Put a.out.now a.r a.start (spiders a.nodes (cells a.room.now) fresh n) l.out l.k) e (l.invariant.2 fresh t)

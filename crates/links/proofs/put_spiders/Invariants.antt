@@ -1,0 +1,21 @@
+-- What the loops of `links::put_spiders` keep.
+-- Assumes nothing.
+use mathlib.Core.List.{List}
+use mathlib.Core.Path.{◌≡◌, refl, ◌∙◌, subst}
+use Prim.Native.Nat.{ℕ, ◌-◌, ◌≤◌}
+use native.Mathlib.Nat.{le_antisymm}
+use lib.ListN.{length}
+use Rattle.le.proofs.Rows.{holds_less, holds_same}
+use Rattle.links.specs.Links.{cells, Table, spiders}
+use Rattle.write.specs.Write.{Put}
+use Rattle.write.proofs.Results.{put_none, put_then}
+use Rattle.links.proofs.Spiders.{spiders_more, spiders_room}
+use native.Mathlib.Omega.{arith}
+use Rattle.links.proofs.put_spiders.Given as goal
+
+abbrev pub invariant-loop-id : goal.invariant-loop-id
+invariant-loop-id l = (l.id ≤ l.nodes) × (length l.out ≡ length l.initial.out)
+    × ((fresh : ℕ → ℕ → List ℕ) → Table l.nodes l.room fresh → Put l.initial.out l.r l.start (spiders l.nodes (cells l.room) fresh l.id) l.out l.k)
+
+abbrev pub decreases-loop-id : goal.decreases-loop-id
+decreases-loop-id l = l.nodes - l.id

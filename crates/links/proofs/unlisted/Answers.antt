@@ -1,0 +1,9 @@
+-- `links::unlisted` meets its contract.
+-- Assumes nothing.
+use mathlib.Core.Logic.{inl}
+use mathlib.Core.Path.{refl}
+use borrow.Author.Rules.{rules}
+use Rattle.links.proofs.unlisted.Goals as goal
+
+pub highest-requires : goal.highest-requires
+highest-requires c = inl refl

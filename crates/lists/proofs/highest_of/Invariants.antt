@@ -1,0 +1,23 @@
+-- What the loops of `lists::highest_of` keep.
+-- Assumes nothing.
+use mathlib.Core.Bool.{Bool, true, false}
+use mathlib.Core.List.{List, ◌∷◌, [], ◌++◌}
+use mathlib.Core.Path.{◌≡◌, refl, sym, ap, ◌∙◌}
+use Prim.Native.Nat.{ℕ, ◌≤◌, ◌<◌, ◌-◌, ◌+◌, ◌*◌}
+use native.Mathlib.Nat.{mul-le-mul_right}
+use borrow.Author.Rules.{rules}
+use native.Mathlib.Omega.{arith}
+use lib.Dec.{ltb}
+use borrow.Author.Tests.{ltb-true, ltb-false}
+use Rattle.le.specs.Le.{number_at}
+use Rattle.le.specs.Rows.{row_at, entry, span}
+use Rattle.le.proofs.Rows.{wide_some, span_next}
+use Rattle.lists.specs.Reach.{highest}
+use Rattle.lists.proofs.Reach.{highest_next}
+use Rattle.lists.proofs.highest_of.Given as goal
+
+abbrev pub invariant-loop-place : goal.invariant-loop-place
+invariant-loop-place l = Looked l.s l.at l.n l.width l.most l.place
+
+abbrev pub decreases-loop-place : goal.decreases-loop-place
+decreases-loop-place l = l.end - l.place

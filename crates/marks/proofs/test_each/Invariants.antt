@@ -1,0 +1,14 @@
+-- What the loops of `marks::test_each` keep.
+-- Assumes nothing.
+use Rattle.std.proofs.Common.{◌≡◌, ℕ, ◌-◌, ◌≤◌, length, refl, ◌∙◌, subst, le_antisymm, arith}
+use Rattle.le.specs.Rows.{span}
+use Rattle.le.proofs.Rows.{holds_less, holds_index}
+use Rattle.marks.specs.Tables.{most_nodes, loose, tested_all, went_of}
+use Rattle.marks.proofs.Loops.{read_low, test_turn, bump_few}
+use Rattle.marks.proofs.test_each.Given as goal
+
+abbrev pub invariant-loop-j : goal.invariant-loop-j
+invariant-loop-j l = (l.j ≤ l.count) × (length l.room ≡ length l.initial.room) × (l.gone ≤ l.j) × ((l.gone ≡ went_of (span l.src l.r l.first l.j) l.initial.room) × (l.room ≡ tested_all (span l.src l.r l.first l.j) l.initial.room))
+
+abbrev pub decreases-loop-j : goal.decreases-loop-j
+decreases-loop-j l = l.count - l.j

@@ -1,0 +1,18 @@
+-- `ohg::ohg_spiderize_nodes` meets its contract.
+-- Assumes nothing.
+use native.Mathlib.Omega.{arith}
+use lib.ListN.{length}
+use borrow.Author.Rules.{rules}
+use Rattle.le.proofs.Numbers.{below_each}
+use Rattle.packing.proofs.Packing.{packs, returns_of}
+use Rattle.ohg.proofs.Ranges.{spiderize_nodes_ranged}
+use Rattle.ohg.proofs.ohg_spiderize_nodes.Goals as goal
+
+pub pack-requires : goal.pack-requires
+pack-requires c =
+    let a = c.args in
+    let t-src = below_each 256 a.src.now (λ i l. omega (arith, c.type_inv.src i)) in
+    packs (spiderize_nodes_ranged a.src.now t-src (length a.out.now) a.ids.now (length a.room.now)) c.spiderize_nodes-x.ensures.result
+
+pub returns : goal.returns
+returns c = returns_of c.spiderize_nodes-x.ensures c.pack.ensures

@@ -1,0 +1,92 @@
+-- `once_fed::mark_list` meets its contract.
+-- Assumes nothing.
+use mathlib.Core.Bool.{true}
+use mathlib.Core.Path.{◌≡◌, refl, ◌∙◌}
+use Prim.Native.Nat.{◌≤◌, ◌<◌, ◌-◌}
+use native.Mathlib.Nat.{le_antisymm}
+use borrow.Author.Rules.{rules}
+use native.Mathlib.Omega.{arith}
+use lib.ListN.{length}
+use borrow.Author.Tests.{not-true, not-false}
+use Rattle.once_fed.specs.Marked.{Marks}
+use Rattle.le.specs.Rows.{span}
+use Rattle.le.proofs.Numbers.{below_at}
+use Rattle.le.proofs.Rows.{holds_less, holds_index, length_span, span_at}
+use Rattle.once_fed.proofs.Marked.{list_start, list_turn, list_stop}
+use Rattle.once_fed.proofs.mark_list.Goals as goal
+use Rattle.once_fed.proofs.mark_list.Goals.{After-mark-arg-1, Else-not-mark, Then-not-mark}
+
+-- the id that was read is below the node count
+known : (c : Then-not-mark) → c.number-id.result < c.args.nodes
+known c = let a = c.args in
+    let i = c.loop-i.i in
+    let b = a.src.now in
+    omega (
+      arith,
+      c.number-id.ensures.0,
+      span_at b a.r a.k a.n i (omega arith),
+      below_at a.nodes (span b a.r a.k a.n) i c.requires.1 (omega (arith, length_span b a.r a.k a.n)),
+    )
+
+-- the id that was read is below the node count
+known_2 : (c : Else-not-mark) → c.number-id.result < c.args.nodes
+known_2 c = let a = c.args in
+    let i = c.loop-i.i in
+    let b = a.src.now in
+    omega (
+      arith,
+      c.number-id.ensures.0,
+      span_at b a.r a.k a.n i (omega arith),
+      below_at a.nodes (span b a.r a.k a.n) i c.requires.1 (omega (arith, length_span b a.r a.k a.n)),
+    )
+
+-- the id that was read is below the node count
+known_3 : (c : After-mark-arg-1) → c.number-id.result < c.args.nodes
+known_3 c = let a = c.args in
+    let i = c.loop-i.i in
+    let b = a.src.now in
+    omega (
+      arith,
+      c.number-id.ensures.0,
+      span_at b a.r a.k a.n i (omega arith),
+      below_at a.nodes (span b a.r a.k a.n) i c.requires.1 (omega (arith, length_span b a.r a.k a.n)),
+    )
+
+pub loop-i-init : goal.loop-i-init
+loop-i-init c = let a = c.args in (omega arith, refl, list_start a.room.now a.nodes a.way a.src.now a.r a.k)
+
+pub overflow_add-k : goal.overflow_add-k
+overflow_add-k c = omega (arith, holds_index c.requires.0)
+
+pub number-id-requires : goal.number-id-requires
+number-id-requires c = holds_less c.requires.0 _ (omega arith)
+
+pub returns-then-not-mark : goal.returns-then-not-mark
+returns-then-not-mark c =
+    let a = c.args in
+    let l = c.loop-i in
+    let f = c.mark in
+    let x = c.number-id in
+    list_stop a.room.now a.nodes a.way a.src.now a.r a.k a.n l.i (omega arith) l.room l.invariant.2 x.result x.ensures.0 (known c) (omega arith)
+    c.requires.3 f.result f.ensures.0 f.new.0 f.ensures.1 (not-true _ c.if-not-mark.true-raw)
+
+pub loop-i-preserved : goal.loop-i-preserved
+loop-i-preserved c =
+    let a = c.args in
+    let l = c.loop-i in
+    let f = c.mark in
+    let x = c.number-id in (
+      omega arith,
+      f.auto.0 ∙ l.invariant.1,
+      list_turn a.room.now a.nodes a.way a.src.now a.r a.k a.n l.i (omega arith) l.room l.invariant.2 x.result x.ensures.0 (known_2 c) (omega arith)
+          c.requires.3 f.result f.ensures.0 f.new.0 f.ensures.1 (not-false _ c.if-not-mark.false-raw),
+    )
+
+pub mark-requires : goal.mark-requires
+mark-requires c = (omega (arith, known_3 c), c.requires.3)
+
+pub returns : goal.returns
+returns c =
+    let l = c.loop-i in
+    let e = le_antisymm l.invariant.0 c.loop-i-test.false in
+    rw (← e) l.invariant.2

@@ -1,0 +1,16 @@
+-- `parts::put_bill` meets its contract.
+-- Assumes nothing.
+use native.Mathlib.Omega.{arith}
+use borrow.Author.Rules.{rules}
+use Rattle.parts.proofs.Putting.{all_put}
+use Rattle.parts.proofs.put_bill.Goals as goal
+
+pub put_row-requires : goal.put_row-requires
+put_row-requires c = omega (arith, c.requires.0, c.requires.1.twelve)
+
+pub returns : goal.returns
+returns c =
+    let third = c.put8 in
+    let second = c.put4 in
+    let first = c.put_row in
+    all_put c.args.out.now first.new.0 second.new.0 third.new.0 c.args.bill.counts c.args.bill.buffers c.args.bill.total c.requires.1.twelve first.ensures second.ensures third.ensures

@@ -1,0 +1,23 @@
+-- `pieces::put_rest` meets its contract.
+-- Assumes nothing.
+use mathlib.Core.Path.{refl}
+use native.Mathlib.Omega.{arith}
+use borrow.Author.Rules.{rules}
+use Rattle.le.proofs.Rows.{length_span, holds_index}
+use Rattle.pieces.proofs.Held.{held}
+use Rattle.pieces.proofs.put_rest.Goals as goal
+
+pub body_row-requires : goal.body_row-requires
+body_row-requires c = c.requires.1.low
+
+pub body_row-requires-2 : goal.body_row-requires-2
+body_row-requires-2 c = c.requires.0.low
+
+pub copy_numbers-requires : goal.copy_numbers-requires
+copy_numbers-requires c = (held c.requires.1.body _ c.body_row.ensures _ refl _ (omega arith), held c.requires.0.body_held _ c.body_row-2.ensures _ refl _ (omega arith))
+
+pub overflow_add-result : goal.overflow_add-result
+overflow_add-result c = omega (arith, holds_index c.requires.1.body)
+
+pub returns : goal.returns
+returns c = record { stored = cc (c.copy_numbers.ensures, c.body_row.ensures, c.body_row-2.ensures); next = rw length_span }

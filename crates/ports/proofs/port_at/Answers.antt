@@ -1,0 +1,10 @@
+-- `ports::port_at` meets its contract.
+-- Assumes nothing.
+use borrow.Author.Rules.{rules}
+use Rattle.ports.proofs.port_at.Goals as goal
+
+pub returns-then-target : goal.returns-then-target
+returns-then-target c = rw c.if-target.true
+
+pub returns : goal.returns
+returns c = rw c.if-target.false

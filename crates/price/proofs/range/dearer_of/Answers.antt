@@ -1,0 +1,31 @@
+-- `price::range::dearer_of` meets its contract.
+-- Assumes nothing.
+use mathlib.Core.Bool.{Bool, cond}
+use mathlib.Core.Path.{◌≡◌, sym, ap, ◌∙◌}
+use borrow.Author.Rules.{rules}
+use borrow.Author.Tests.{lt-ltb, le-ltb}
+use Rattle.catalogue.specs.Range.{at, dearer}
+use Rattle.price.specs.Totals.{dearest_in, dearest_meant}
+use Rattle.price.specs.declared.range.Dearest.{Dearest}
+use Rattle.price.proofs.range.dearer_of.Goals as goal
+
+pub returns-in_default : goal.returns-in_default
+returns-in_default c =
+    let a = c.args in
+    sym (ap (λ (d : Dearest). dearest_in (dearer (dearest_meant d) a.index a.total)) c.in_default.is)
+
+pub returns-then-most-total : goal.returns-then-most-total
+returns-then-most-total c =
+    let a = c.args in
+    let g = c.d-1.given in
+    let m = g.0.1.0 in
+    sym (ap (λ (d : Dearest). dearest_in (dearer (dearest_meant d) a.index a.total)) g.1
+    ∙ ap (λ (b : Bool). dearest_in (cond b (at a.index a.total) (at g.0.0 m))) (lt-ltb m a.total c.if-most-total.true))
+
+pub returns : goal.returns
+returns c =
+    let a = c.args in
+    let g = c.d-1.given in
+    let m = g.0.1.0 in
+    sym (ap (λ (d : Dearest). dearest_in (dearer (dearest_meant d) a.index a.total)) g.1
+    ∙ ap (λ (b : Bool). dearest_in (cond b (at a.index a.total) (at g.0.0 m))) (le-ltb m a.total c.if-most-total.false))

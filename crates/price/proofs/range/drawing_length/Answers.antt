@@ -1,0 +1,30 @@
+-- `price::range::drawing_length` meets its contract.
+-- Assumes nothing.
+use mathlib.Core.Path.{◌≡◌, sym, ap, ◌∙◌}
+use Prim.Native.Nat.{◌≤◌, ◌<◌}
+use native.Mathlib.Omega.{arith}
+use lib.ListN.{length, drop, length-drop}
+use borrow.Author.Rules.{rules}
+use Rattle.le.specs.Le.{number_at}
+use Rattle.form.specs.Form.{numbered}
+use Rattle.form.specs.declared.Step.TheVariants as step
+use Rattle.catalogue.proofs.Slices.{first_short, first_past, first_whole}
+use Rattle.price.proofs.range.drawing_length.Goals as goal
+
+pub returns-then-left-lt4 : goal.returns-then-left-lt4
+returns-then-left-lt4 c =
+    let a = c.args in
+    sym (ap numbered (first_short (drop a.at a.src.now) (omega (arith, length-drop a.at a.src.now))))
+
+pub returns-then-left-n : goal.returns-then-left-n
+returns-then-left-n c =
+    let a = c.args in
+    let d = drop a.at a.src.now in
+    sym (ap numbered (first_past d (four c) (omega (arith, length-drop 4 d, length-drop a.at a.src.now, c.get4-n.ensures))))
+
+pub returns : goal.returns
+returns c =
+    let a = c.args in
+    let d = drop a.at a.src.now in
+    let k = c.get4-n in
+    ap step.Number k.ensures ∙ sym (ap numbered (first_whole d (four c) (omega (arith, length-drop 4 d, length-drop a.at a.src.now, k.ensures))))

@@ -1,0 +1,28 @@
+-- `queue::sink` meets its contract.
+-- Assumes nothing.
+use mathlib.Core.List.{List}
+use mathlib.Core.Path.{sym, subst}
+use Prim.Native.Nat.{ℕ, ◌+◌, ◌*◌, ◌≤◌}
+use native.Mathlib.Omega.{arith}
+use lib.ListN.{length}
+use Rattle.le.specs.Le.{words}
+use Rattle.le.proofs.Places.{length_words}
+use Rattle.queue.specs.Places.{Replaced}
+use Rattle.queue.proofs.Stored.{sinks_put, keys_length}
+use borrow.Author.Rules.{rules}
+use Rattle.queue.proofs.sink.Goals as goal
+
+pub put_key-requires : goal.put_key-requires
+put_key-requires c =
+    let o = c.sift_down-gap in
+    let a = c.args in
+    omega (arith, o.ensures.sinking.inside, keys_length (words a.room.now) a.base a.n)
+
+pub returns : goal.returns
+returns c =
+    let a = c.args in
+    let o = c.sift_down-gap in
+    let w = c.put_key in
+    let W = words a.room.now in
+    let fits : a.base + 2 * a.n ≤ length W = omega (arith, length_words a.room.now) in
+    subst (λ (X : List ℕ). Replaced W X a.base a.n a.k) (sym w.ensures) (sinks_put W a.base a.n a.k fits (words o.new.0) o.result o.ensures)

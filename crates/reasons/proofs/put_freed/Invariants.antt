@@ -1,0 +1,20 @@
+-- What the loops of `reasons::put_freed` keep.
+-- Assumes nothing.
+use mathlib.Core.Path.{◌≡◌, refl, sym, ◌∙◌}
+use Prim.Native.Nat.{◌+◌, ◌-◌, ◌≤◌, ◌<◌}
+use native.Mathlib.Omega.{arith}
+use lib.ListN.{length, take}
+use Rattle.le.specs.Le.{words}
+use Rattle.le.proofs.Places.{length_words}
+use Rattle.tables.specs.Tables.{waiting_at}
+use Rattle.removal.specs.Room.{part}
+use Rattle.removal.proofs.Tables.{part_length, part_at}
+use Rattle.reasons.specs.Told.{freed_all}
+use Rattle.reasons.proofs.Entries.{freed_none, freed_more, freed_done}
+use Rattle.reasons.proofs.put_freed.Given as goal
+
+abbrev pub invariant-loop-j : goal.invariant-loop-j
+invariant-loop-j l = (l.j ≤ l.count) × (l.out ≡ freed_all l.nodes l.kind l.stage (take l.j (part (words l.room) (waiting_at + l.from) l.count)) l.initial.out) × (length l.out ≡ length l.initial.out)
+
+abbrev pub decreases-loop-j : goal.decreases-loop-j
+decreases-loop-j l = l.count - l.j

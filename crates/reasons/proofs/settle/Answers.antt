@@ -1,0 +1,51 @@
+-- `reasons::settle` meets its contract.
+-- Assumes nothing.
+use mathlib.Core.Path.{ap, ◌∙◌}
+use mathlib.Core.List.{List}
+use Prim.Native.Nat.{ℕ, ◌≤◌}
+use native.Mathlib.Omega.{arith}
+use lib.ListN.{length}
+use borrow.Author.Rules.{rules}
+use Rattle.le.specs.Le.{words}
+use Rattle.le.proofs.Places.{length_words}
+use Rattle.tables.specs.Tables.{picked_at}
+use Rattle.removal.specs.Room.{source}
+use Rattle.reasons.specs.Told.{freed_all}
+use Rattle.reasons.proofs.Rooms.{waited_part, settled_later}
+use Rattle.reasons.proofs.settle.Goals as goal
+use Rattle.reasons.proofs.settle.Goals.{After-put_freed-arg-1, After-slice_known-4-1}
+
+long : (c : After-put_freed-arg-1) → picked_at ≤ length (words c.args.room.now)
+long c = omega (arith, length_words c.args.room.now)
+
+-- none has left
+later : (c : After-put_freed-arg-1) → c.args.end ≤ c.peel-last.result
+later c = let a = c.args in
+    settled_later (source a.s.now a.r) (words a.room.now) (words c.peel-last.new.room) a.nodes a.n (omega arith) (long c) a.from a.end c.peel-last.result (omega arith) (omega arith) c.peel-last.ensures
+
+long_2 : (c : After-slice_known-4-1) → picked_at ≤ length (words c.args.room.now)
+long_2 c = omega (arith, length_words c.args.room.now)
+
+-- none has left
+later_2 : (c : After-slice_known-4-1) → c.args.end ≤ c.peel-last.result
+later_2 c = let a = c.args in
+    settled_later (source a.s.now a.r) (words a.room.now) (words c.peel-last.new.room) a.nodes a.n (omega arith) (long_2 c) a.from a.end c.peel-last.result (omega arith) (omega arith) c.peel-last.ensures
+
+pub overflow_sub-last : goal.overflow_sub-last
+overflow_sub-last c = omega (arith, later c)
+
+pub put_freed-requires : goal.put_freed-requires
+put_freed-requires c =
+    let p = c.peel-last in
+    (omega arith, omega arith, omega (arith, later c, p.ensures.few), omega (arith, p.auto.0))
+
+pub returns : goal.returns
+returns c =
+    let a = c.args in
+    let p = c.peel-last in
+    let X = words p.new.0 in
+    let above : a.from ≤ p.result = omega (arith, later_2 c) in (
+      record { went = p.ensures; later_2 = above },
+      c.put_freed.ensures
+          ∙ ap (λ (ys : List ℕ). freed_all a.nodes a.kind a.stage ys a.out.now) (waited_part X a.n a.from p.result above p.ensures.few (omega arith) (omega (arith, length_words p.new.0, p.auto.0))),
+    )

@@ -1,0 +1,18 @@
+-- What the loops of `removal::lower_formed` keep.
+-- Assumes nothing.
+use mathlib.Core.Path.{◌≡◌, refl, ap, ◌∙◌}
+use Prim.Native.Nat.{ℕ, ◌+◌, ◌-◌, ◌*◌, ◌≤◌, ◌<◌}
+use native.Mathlib.Omega.{arith}
+use lib.ListN.{length, get_or, take}
+use Rattle.le.specs.Le.{words}
+use Rattle.le.proofs.Rows.{holds_index, holds_less}
+use Rattle.halves.specs.Halves.{lower_all}
+use Rattle.removal.specs.Room.{source, halves_in, form_list, Went}
+use Rattle.removal.proofs.Walks.{in_get_d, walk_start, walk_roomy, walk_turn, walk_done, formed_length, formed_at}
+use Rattle.removal.proofs.lower_formed.Given as goal
+
+abbrev pub invariant-loop-j : goal.invariant-loop-j
+invariant-loop-j l = (l.j ≤ l.count) × Went (words l.initial.room) (words l.room) l.n l.last (lower_all (take l.j (form_list (source l.s l.r) l.start l.count l.side)) (halves_in (words l.initial.room) l.n l.end)) × (length l.room ≡ length l.initial.room)
+
+abbrev pub decreases-loop-j : goal.decreases-loop-j
+decreases-loop-j l = l.count - l.j

@@ -1,0 +1,12 @@
+-- `spider::list_nothing` meets its contract.
+-- Assumes nothing.
+use mathlib.Core.Bool.{false}
+use borrow.Author.Rules.{rules}
+use native.Mathlib.Omega.{arith}
+use Rattle.spider.proofs.Behind.{listed_behind}
+use Rattle.spider.proofs.list_nothing.Goals as goal
+
+pub returns : goal.returns
+returns c =
+    let l = c.list_none in
+    listed_behind c.args.room.now l.new.0 (omega arith) l.auto.0 c.args.nodes (λ x. false) l.ensures

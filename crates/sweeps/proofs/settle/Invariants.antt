@@ -1,0 +1,23 @@
+-- What the loops of `sweeps::settle` keep.
+-- Assumes nothing.
+use mathlib.Core.Path.{◌≡◌, refl, sym, ◌∙◌, subst}
+use mathlib.Core.Logic.{⊎_elim}
+use Prim.Native.Nat.{ℕ, suc}
+use native.Mathlib.Nat.{eq-or-lt_of_le}
+use native.Mathlib.Omega.{arith}
+use lib.ListN.{length}
+use Rattle.form.specs.Stored.{graph_of}
+use Rattle.choice.specs.Arcs.{size}
+use Rattle.choice.specs.Drawing.{vertex_count}
+use Rattle.marks.specs.Tables.{left}
+use Rattle.sweeps.specs.Sweeps.{Moves, Swept, Sweeps, start, another}
+use Rattle.sweeps.proofs.Form.{is_edges, drawn}
+use Rattle.sweeps.proofs.Sweeping.{size_few, moves_none, moves_then, settled_stable}
+use Rattle.sweeps.proofs.settle.Given as goal
+
+abbrev pub invariant-loop-z : goal.invariant-loop-z
+invariant-loop-z l = (length l.room ≡ length l.initial.room) × Moves (graph_of l.src) l.initial.room l.room l.gone × ((m : ℕ) × Sweeps (graph_of l.src) l.initial.room l.room m)
+
+-- each sweep but the last takes a node away
+abbrev pub decreases-loop-z : goal.decreases-loop-z
+decreases-loop-z l = size (left (length (graph_of l.src).labels) l.room)

@@ -1,0 +1,42 @@
+-- `sweeps::visit_held` meets its contract.
+-- Assumes nothing.
+use mathlib.Core.Path.{sym, ◌∙◌, subst}
+use mathlib.Core.List.{List}
+use Prim.Native.Nat.{ℕ, ◌+◌}
+use native.Mathlib.Omega.{arith}
+use borrow.Author.Rules.{rules}
+use Rattle.le.specs.Rows.{span}
+use Rattle.marks.specs.Tables.{Alike}
+use Rattle.marks.proofs.Tables.{visit_none}
+use Rattle.sweeps.proofs.Hints.{alike_is}
+use Rattle.sweeps.proofs.visit_held.Goals as goal
+
+pub is_held-requires : goal.is_held-requires
+is_held-requires c = let p = c.requires in record { holds = (p.0.0, p.0.1, p.0.3); below = p.1 }
+
+pub returns-then-is_held : goal.returns-then-is_held
+returns-then-is_held c =
+    let a = c.args in
+    let s = span a.src.now a.r a.e.first a.e.sources in
+    let t = span a.src.now a.r (a.e.first + a.e.sources) a.e.targets in
+    let w = visit_none s t a.v a.room.now (c.is_held.ensures c.if-is_held.true) in
+    record { value = sym w.1; alike = alike_is (sym w.0) }
+
+pub visit-k-requires : goal.visit-k-requires
+visit-k-requires c = let p = c.requires in record { holds = (p.0.0, p.0.1, p.0.3); below = p.1 }
+
+pub returns-then-k-ne0 : goal.returns-then-k-ne0
+returns-then-k-ne0 c =
+    let o = c.visit-k in
+    record { value = o.ensures.0; alike = alike_is o.ensures.1 }
+
+pub hold-requires : goal.hold-requires
+hold-requires c =
+    let p = c.requires in
+    record { holds = (p.0.0, p.0.2, omega (arith, p.0.3, c.visit-k.auto.room)); below = p.1 }
+
+pub returns : goal.returns
+returns c =
+    let o = c.visit-k in
+    let h = c.hold in
+    record { value = sym c.if-k-ne0.false ∙ o.ensures.0; alike = subst (λ (q : List ℕ). Alike q h.new.0) o.ensures.1 h.ensures }
