@@ -40,7 +40,7 @@ pub record Rows (b : List ℕ) (z : Sizes) (g : Graph) : Type 0 where
   pub body_held : Holds b (body_of z) (body_size z)
   pub all_labels : span b (labels_of z) 0 (z.nodes + z.edges) ≡ label_row g
   pub labels : span b (labels_of z) 0 z.nodes ≡ g.labels
-  pub edge_labels_lem : span b (labels_of z) z.nodes z.edges ≡ map (λ e. e.label) g.edges
+  pub edge_labels : span b (labels_of z) z.nodes z.edges ≡ map (λ e. e.label) g.edges
   pub body : span b (body_of z) 0 (body_size z) ≡ body g
   pub sources : span b (body_of z) (lists_from z) z.sources ≡ g.sources
   pub targets : span b (body_of z) (lists_from z + z.sources) z.targets ≡ g.targets

@@ -94,7 +94,7 @@ pub record Starting (s : Source) (W : List ℕ) (nodes left : ℕ) : Type 0 wher
   pub told : Told s W nodes n arcs core
   pub left_is : size core ≡ left
   pub some_node : (u : ℕ) × T (has core u) × (u < nodes)
-  pub some_left_lem : 0 < left
+  pub some_left : 0 < left
 
 -- ---- the loop
 
