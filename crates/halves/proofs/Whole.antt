@@ -74,7 +74,7 @@ module _ (arcs : List Arc) (may : ℕ → Bool) (n : ℕ) (S : Set) (h : Halves)
 -- ---- the run
 
 -- a half without arcs makes its vertex loose, so what leaves is removed freely
-left_freed : (arcs : List Arc) {S U : Set} {k : ℕ} (v : ℕ) → T (has S v) → Loose arcs S v → Frees arcs (without v S) U k → Frees arcs S U (suc k)
+left_freed : (arcs : List Arc) {S : Set} (v : ℕ) {U : Set} {k : ℕ} → T (has S v) → Loose arcs S v → Frees arcs (without v S) U k → Frees arcs S U (suc k)
 left_freed arcs v t l untouched = freed v untouched t l
 left_freed arcs v t l (freed u f m n) = freed u (left_freed arcs v t l f) m n
 

@@ -32,5 +32,6 @@ highest_next most id (x ∷ xs) e = omega (arith, highest_next (highest xs) id x
 
 -- the reach is just above the highest
 pub reach_highest : (xs : List ℕ) → 0 < length xs → reach xs ≡ highest xs + 1
+reach_highest [] h = elim h [ ]
 reach_highest (x ∷ []) h = omega arith
 reach_highest (x ∷ y ∷ xs) h = omega (arith, reach_highest (y ∷ xs) (omega arith))

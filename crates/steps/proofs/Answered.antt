@@ -19,7 +19,7 @@ use Rattle.graph.proofs.Steps.{same_answer}
 use Rattle.steps.specs.Steps.{steps_in}
 use Rattle.steps.specs.Calls.{Built, stopped, built, ◌at_step◌, ◌then◌, turns, on_steps, built_in_room, room_build, build_call}
 use Rattle.steps.specs.Singly.{singly, lastly}
-use Rattle.steps.specs.Faults.{BuildFault, no_work_room, unread, at_step, no_room}
+use Rattle.steps.specs.Faults.{BuildFault, no_work_room, unread, at_one_step, no_room}
 use Rattle.steps.proofs.Endings.{never_built, came_built, at_built, came_stopped}
 use Rattle.steps.proofs.LaidDown.{all_writable}
 use Rattle.steps.proofs.Singly.{read_at, singly_turns, turns_formed, build_singly, singly_stops, build_unread}
@@ -105,7 +105,7 @@ module _ (b steps : List ℕ) (t : Below 256 b) (u : Below 256 steps) where
 
       third : (s : StoredGraph) → read b ≡ answered s
           → (singly 0 (steps_in steps) b ≡ stopped k r) ⊎ ((form : List ℕ) × (singly 0 (steps_in steps) b ≡ built form) × (lastly room form ≡ stopped k r)) → Fault k r
-      third s p (inl x) = at_step k r ((steps_by steps 0 s.graph).each k r (stopped_by s p k r x)) (singly_stops 0 (steps_in steps) b k r x)
+      third s p (inl x) = at_one_step k r ((steps_by steps 0 s.graph).each k r (stopped_by s p k r x)) (singly_stops 0 (steps_in steps) b k r x)
       third s p (inr x) =
           let l = last_fault room x.0 k r x.2 in
           subst (λ (z : ℕ × Refusal). Fault z.0 z.1) (λ i. (sym l.1 i, sym l.2 i)) (no_room x.0 x.1 l.0)

@@ -14,6 +14,6 @@ pub data BuildFault (b steps : List ℕ) (room work_room : ℕ) : ℕ → Refusa
   no_work_room : work_room < room_build → BuildFault b steps room work_room 0 (refusal 10)
   unread : (r : Refusal) → read b ≡ refused r → BuildFault b steps room work_room 0 r
   -- a step is the first whose call refuses, by 12, 7 or 9: its index, and the call's own refusal
-  at_step : (k : ℕ) (r : Refusal) → member r.no step_refusals ≡ true → StopsAt 0 (steps_in steps) b k r → BuildFault b steps room work_room k r
+  at_one_step : (k : ℕ) (r : Refusal) → member r.no step_refusals ≡ true → StopsAt 0 (steps_in steps) b k r → BuildFault b steps room work_room k r
   -- all steps pass, and the last form is longer than the room
   no_room : (form : List ℕ) → singly 0 (steps_in steps) b ≡ built form → room < length form → BuildFault b steps room work_room 0 (refusal 10)

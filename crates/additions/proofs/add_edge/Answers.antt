@@ -60,6 +60,6 @@ returns c =
     ∙ ap (λ (X : List ℕ). sets (sets X (log_at + 2 * z.ports) (flat (ports_of (2 * z.edges) s))) (log_at + 2 * z.ports + 2 * a.sources) (flat (ports_of (2 * z.edges + 1) t))) c.set_word.ensures
     ∙ ports_then Y (log_at + 2 * z.ports) (2 * z.edges) (2 * z.edges + 1) s t a.sources ls in
     let P = c.requires in
-    let hp : z.ports + (length s + length t) ≤ largest.most_ports = omega (arith, P.0.2, ls, lt) in
+    let hp : z.ports + (length s + length t) ≤ largest.most_ports = omega (arith, P.sound.2, ls, lt) in
     subst (λ (X : List ℕ). Draws X (more z 0 1 (a.sources + a.targets) 0) (new_edge a.label s t (drawing W z))) (sym e)
-    (draws_as (λ k. more z 0 1 (ls k + lt k) 0) refl (edge_added W z P.0.0 a.label s t P.0.1 hp P.1.1 P.1.2))
+    (draws_as (λ k. more z 0 1 (ls k + lt k) 0) refl (edge_added W z P.sound.0 a.label s t P.sound.1 hp P.holds.1 P.holds.2))

@@ -80,7 +80,7 @@ returns c =
     ∙ ports_then Y log (2 * z.edges) (2 * z.edges + 1) x y a.sources (length_range z.nodes a.sources) in
     let f : sets Y log (flat (edge_ports z.edges (range z.nodes (length s)) (range (z.nodes + length s) (length t)))) ≡ sets Y log (flat (edge_ports z.edges x y)) =
     λ k. sets Y log (flat (edge_ports z.edges (range z.nodes (ls k)) (range (z.nodes + ls k) (lt k)))) in
-    let hn : z.nodes + length (s ++ t) ≤ largest.most.nodes = omega (arith, P.0.1, lb) in
-    let hp : z.ports + (length s + length t) ≤ largest.most_ports = omega (arith, P.0.3, ls, lt) in
+    let hn : z.nodes + length (s ++ t) ≤ largest.most.nodes = omega (arith, P.sound.1, lb) in
+    let hp : z.ports + (length s + length t) ≤ largest.most_ports = omega (arith, P.sound.3, ls, lt) in
     subst (λ (X : List ℕ). Draws X (more z (a.sources + a.targets) 1 (a.sources + a.targets) 0) (new_operation a.label s t (drawing W z))) (f ∙ sym e)
-    (draws_as (λ k. more z (lb k) 1 (ls k + lt k) 0) refl (operation_added W z P.0.0 a.label s t hn P.0.2 hp))
+    (draws_as (λ k. more z (lb k) 1 (ls k + lt k) 0) refl (operation_added W z P.sound.0 a.label s t hn P.sound.2 hp))

@@ -29,7 +29,7 @@ pub load_edge-k-requires : goal.load_edge-k-requires
 load_edge-k-requires c = let l = c.loop-i in record { stored = (c.requires.0, omega arith, l.invariant.1, omega (arith, c.requires.1, l.invariant.3)); draws = l.invariant.2 }
 
 pub loop-i-preserved : goal.loop-i-preserved
-loop-i-preserved c = let l = c.loop-i in let o = c.load_edge-k in (omega arith, o.ensures.0, o.ensures.1, o.auto.0 ∙ l.invariant.3)
+loop-i-preserved c = let l = c.loop-i in let o = c.load_edge-k in (omega arith, o.ensures.0, o.ensures.1, o.auto.room ∙ l.invariant.3)
 
 pub returns : goal.returns
 returns c =

@@ -70,7 +70,7 @@ loop-p-preserved c =
     let w = c.set_word in (
       subst (λ (X : List ℕ). Climbed a.n (words a.room.now) X a.v c.word-q.result) (sym w.ensures) (step_2 c _ c.word-q.ensures).0,
       c.word-p-in-loop-p.ensures,
-      w.auto.0 ∙ c.loop-p.invariant.2,
+      w.auto.room ∙ c.loop-p.invariant.2,
     )
 
 pub returns : goal.returns

@@ -35,7 +35,7 @@ loop-v-preserved c =
       subst (λ (X : List _). Flattened a.n (words a.room.now) X (l.v + 1)) (sym w.ensures)
           (flat_turn a.n (words a.room.now) (words l.room) l.v l.invariant.1 (words_fit l.room _ a.n l.invariant.2 c.requires.n_in_bounds) h
           c.word-p.result c.word-q.result c.word-p.ensures c.word-q.ensures),
-      w.auto.0 ∙ l.invariant.2,
+      w.auto.room ∙ l.invariant.2,
     )
 
 pub returns : goal.returns

@@ -16,9 +16,9 @@ returns-then-r-s c =
     let e = c.find-r in
     let a = c.args in
     let W = words a.room.now in
-    let room = words_fit f.new.0 _ a.n (f.auto.0 ∙ e.auto.0) c.requires.n_in_bounds.0 in
+    let room = words_fit f.new.room _ a.n (f.auto.room ∙ e.auto.room) c.requires.n_in_bounds.0 in
     subst (λ (X : List ℕ). Joins a.n W X a.v a.w) (sym c.set_word.ensures)
-    (join_less a.n W (words e.new.0) (words f.new.0) a.v a.w e.result f.result e.ensures f.ensures c.requires.n_in_bounds.1 c.requires.n_in_bounds.2 room c.if-r-s.true)
+    (join_less a.n W (words e.new.room) (words f.new.room) a.v a.w e.result f.result e.ensures f.ensures c.requires.n_in_bounds.1 c.requires.n_in_bounds.2 room c.if-r-s.true)
 
 pub returns-then-s-r : goal.returns-then-s-r
 returns-then-s-r c =
@@ -26,9 +26,9 @@ returns-then-s-r c =
     let e = c.find-r in
     let a = c.args in
     let W = words a.room.now in
-    let room = words_fit f.new.0 _ a.n (f.auto.0 ∙ e.auto.0) c.requires.n_in_bounds.0 in
+    let room = words_fit f.new.room _ a.n (f.auto.room ∙ e.auto.room) c.requires.n_in_bounds.0 in
     subst (λ (X : List ℕ). Joins a.n W X a.v a.w) (sym c.set_word-then-s-r.ensures)
-    (join_more a.n W (words e.new.0) (words f.new.0) a.v a.w e.result f.result e.ensures f.ensures c.requires.n_in_bounds.1 c.requires.n_in_bounds.2 room c.if-s-r.true)
+    (join_more a.n W (words e.new.room) (words f.new.room) a.v a.w e.result f.result e.ensures f.ensures c.requires.n_in_bounds.1 c.requires.n_in_bounds.2 room c.if-s-r.true)
 
 pub returns-else-s-r : goal.returns-else-s-r
 returns-else-s-r c =
@@ -36,5 +36,5 @@ returns-else-s-r c =
     let e = c.find-r in
     let a = c.args in
     let W = words a.room.now in
-    let room = words_fit f.new.0 _ a.n (f.auto.0 ∙ e.auto.0) c.requires.n_in_bounds.0 in
-    join_same a.n W (words e.new.0) (words f.new.0) a.v a.w e.result f.result e.ensures f.ensures c.requires.n_in_bounds.1 c.requires.n_in_bounds.2 room (omega arith)
+    let room = words_fit f.new.room _ a.n (f.auto.room ∙ e.auto.room) c.requires.n_in_bounds.0 in
+    join_same a.n W (words e.new.room) (words f.new.room) a.v a.w e.result f.result e.ensures f.ensures c.requires.n_in_bounds.1 c.requires.n_in_bounds.2 room (omega arith)

@@ -47,9 +47,9 @@ loop-j-preserved c =
     let o = c.join in
     let e : l.j ≡ l.j - 1 + 1 = omega arith in (
       omega arith,
-      pairs_turn a.src.now a.r a.k a.m (l.j - 1) (omega arith) a.n (words l.room) (words o.new.0) v.result w.result v.ensures.0 w.ensures.0
+      pairs_turn a.src.now a.r a.k a.m (l.j - 1) (omega arith) a.n (words l.room) (words o.new.room) v.result w.result v.ensures.0 w.ensures.0
           (subst (λ (i : ℕ). JoinedFrom a.src.now a.r a.k a.m a.n i (words l.room)) e l.invariant.1) o.ensures,
-      o.auto.0 ∙ l.invariant.2,
+      o.auto.room ∙ l.invariant.2,
     )
 
 pub returns : goal.returns

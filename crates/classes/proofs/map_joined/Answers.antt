@@ -42,13 +42,13 @@ label_row-requires c = (stored_rows c.requires.0).low
 pub agree-requires : goal.agree-requires
 agree-requires c =
     let h = stored_rows c.requires.0 in
-    let f = c.find_leaders in record { n_in_bounds = (omega arith, at_row c.label_row.ensures (holds_less h.labels_held _ (omega arith))); falls = map_falls c.args.src.now c.args.z c.requires.0 _ c.body_row.ensures (words f.new.0) f.ensures }
+    let f = c.find_leaders in record { n_in_bounds = (omega arith, at_row c.label_row.ensures (holds_less h.labels_held _ (omega arith))); falls = map_falls c.args.src.now c.args.z c.requires.0 _ c.body_row.ensures (words f.new.room) f.ensures }
 
 pub returns-then-not-agree : goal.returns-then-not-agree
 returns-then-not-agree c =
     let b = c.args.src.now in
     let f = c.find_leaders in
-    let X = words f.new.0 in
+    let X = words f.new.room in
     let e = c.body_row.ensures in
     map_differs b c.args.z c.requires.0 _ e X f.ensures _ c.label_row.ensures
     (sym (not-true _ c.if-not-agree.true-raw) ∙ c.agree.ensures _ (map_named b c.args.z c.requires.0 _ e X f.ensures)) _
@@ -57,13 +57,13 @@ pub number_classes-count-requires : goal.number_classes-count-requires
 number_classes-count-requires c =
     let low = (stored_rows c.requires.0).low in
     let f = c.find_leaders in
-    record { n_in_bounds = (omega arith, omega arith); falls = map_falls c.args.src.now c.args.z c.requires.0 _ c.body_row.ensures (words f.new.0) f.ensures }
+    record { n_in_bounds = (omega arith, omega arith); falls = map_falls c.args.src.now c.args.z c.requires.0 _ c.body_row.ensures (words f.new.room) f.ensures }
 
 pub returns : goal.returns
 returns c =
     let b = c.args.src.now in
     let f = c.find_leaders in
-    let X = words f.new.0 in
+    let X = words f.new.room in
     let e = c.body_row.ensures in
     let t = map_named b c.args.z c.requires.0 _ e X f.ensures in
     let k = c.number_classes-count.ensures _ t in

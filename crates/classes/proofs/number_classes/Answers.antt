@@ -34,8 +34,8 @@ loop-k-preserved c =
     let h : l.k < a.n = omega arith in (
       omega arith,
       count_turn a.n (words a.room.now) (words l.room) l.k l.count l.invariant.1 (words_fit l.room _ a.n l.invariant.2 c.requires.n_in_bounds.0) h
-          (words o.new.0) o.result o.ensures.0 o.ensures.1,
-      o.auto.0 ∙ l.invariant.2,
+          (words o.new.room) o.result o.ensures.0 o.ensures.1,
+      o.auto.room ∙ l.invariant.2,
     )
 
 pub returns : goal.returns

@@ -10,7 +10,7 @@ returns-then-l-k c =
     let a = c.args in
     let w = c.word-l in
     let t = c.set_word in
-    number_own (words a.room.now) (words t.new.0) a.k a.count w.result w.ensures c.if-l-k.true t.ensures
+    number_own (words a.room.now) (words t.new.room) a.k a.count w.result w.ensures c.if-l-k.true t.ensures
 
 pub returns : goal.returns
 returns c =
@@ -18,4 +18,4 @@ returns c =
     let w = c.word-l in
     let q = c.word-id in
     let t = c.set_word-2 in
-    number_other (words a.room.now) (words t.new.0) a.k a.count w.result w.ensures c.if-l-k.false q.result q.ensures t.ensures
+    number_other (words a.room.now) (words t.new.room) a.k a.count w.result w.ensures c.if-l-k.false q.result q.ensures t.ensures

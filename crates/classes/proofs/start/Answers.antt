@@ -17,7 +17,7 @@ loop-k-preserved c =
     let l = c.loop-k in
     let w = c.set_word in
     let room = words_fit l.room _ c.args.n l.invariant.2 c.requires.0 in
-    (omega arith, own_more (words l.room) _ l.k (omega arith) w.ensures l.invariant.1, w.auto.0 ∙ l.invariant.2)
+    (omega arith, own_more (words l.room) _ l.k (omega arith) w.ensures l.invariant.1, w.auto.room ∙ l.invariant.2)
 
 pub returns : goal.returns
 returns c =

@@ -36,12 +36,12 @@ returns-in_default c =
     let a = c.args in
     let f = c.flag_nodes-flagged in
     gives_refused c.refusal.result a.list.now
-    (keeping_refused (kept c) (graph_of a.src.now) _ _ (drawn c.requires.stored.0) (words f.new.0) f.result f.ensures c.refusal.result (passed_on c.in_default.is c.refusal.ensures) (format_of a.src.now) (length a.list.now))
+    (keeping_refused (kept c) (graph_of a.src.now) _ _ (drawn c.requires.stored.0) (words f.new.room) f.result f.ensures c.refusal.result (passed_on c.in_default.is c.refusal.ensures) (format_of a.src.now) (length a.list.now))
 
 pub put_answer-requires : goal.put_answer-requires
 put_answer-requires c =
     let d = drawn c.requires.stored.0 in
-    let f = c.flag_nodes-flagged in record { room_choice_in_bounds = (omega (arith, c.requires.room_choice_in_bounds, f.auto.0), (stored_rows c.requires.stored.0).low.width, d.few_nodes, d.few); free_len = keeping_counted (kept_2 c) (graph_of c.args.src.now) _ _ d (words f.new.0) f.result f.ensures _ c.in-Number.is }
+    let f = c.flag_nodes-flagged in record { room_choice_in_bounds = (omega (arith, c.requires.room_choice_in_bounds, f.auto.room), (stored_rows c.requires.stored.0).low.width, d.few_nodes, d.few); free_len = keeping_counted (kept_2 c) (graph_of c.args.src.now) _ _ d (words f.new.room) f.result f.ensures _ c.in-Number.is }
 
 pub returns : goal.returns
 returns c =
@@ -49,6 +49,6 @@ returns c =
     let f = c.flag_nodes-flagged in
     let p = c.put_answer in
     let width : (format_of a.src.now).width ≡ a.z.width = ap (λ (y : Sizes). y.width) (sym c.requires.stored.0.sizes) in
-    subst (λ (x : Answer Result). Gives x p.result a.list.now p.new.0)
-    (sym (keeping_listed_lem (kept_3 c) (graph_of a.src.now) _ _ (drawn c.requires.stored.0) (words f.new.0) f.result f.ensures _ c.in-Number.is (format_of a.src.now) (length a.list.now)))
+    subst (λ (x : Answer Result). Gives x p.result a.list.now p.new.list)
+    (sym (keeping_listed_lem (kept_3 c) (graph_of a.src.now) _ _ (drawn c.requires.stored.0) (words f.new.room) f.result f.ensures _ c.in-Number.is (format_of a.src.now) (length a.list.now)))
     (p.ensures (format_of a.src.now) width)

@@ -32,14 +32,14 @@ form : (c : After-refusal-in_default-pairs) → Stored c.args.src.now c.in-Sized
 form c = let b = c.args.src.now in
     let r = c.read-graph in
     let g = c.graph-1.given in
-    stored b r.result r.ensures (below_each 256 b (λ i l. omega (arith, c.type_inv.src i))) g.0.0 g.1
+    stored b r.result r.ensures (below_each 256 b (λ i l. omega (arith, c.type_inv.src i))) c.in-Sized.z c.in-Sized.is
 
 -- the form that was read
 form_2 : (c : After-choose-arg-3-1) → Stored c.args.src.now c.in-Sized.z
 form_2 c = let b = c.args.src.now in
     let r = c.read-graph in
     let g = c.graph-1.given in
-    stored b r.result r.ensures (below_each 256 b (λ i l. omega (arith, c.type_inv.src i))) g.0.0 g.1
+    stored b r.result r.ensures (below_each 256 b (λ i l. omega (arith, c.type_inv.src i))) c.in-Sized.z c.in-Sized.is
 
 -- the room is long enough
 long : (c : After-choose-arg-3-1) → room_cycle_breaking_nodes ≤ length c.args.room.now
@@ -51,7 +51,7 @@ form_3 : (c : After-slice_known-4-1) → Stored c.args.src.now c.in-Sized.z
 form_3 c = let b = c.args.src.now in
     let r = c.read-graph in
     let g = c.graph-1.given in
-    stored b r.result r.ensures (below_each 256 b (λ i l. omega (arith, c.type_inv.src i))) g.0.0 g.1
+    stored b r.result r.ensures (below_each 256 b (λ i l. omega (arith, c.type_inv.src i))) c.in-Sized.z c.in-Sized.is
 
 -- no refusal was met
 whole : (c : After-slice_known-4-1) → let a = c.args in let b = a.src.now in
@@ -105,5 +105,5 @@ returns c =
     let a = c.args in
     let b = a.src.now in
     let k = c.choose in
-    subst (λ (x : Answer Result). Gives x k.result a.list.now k.new.1.1.1.1.0)
+    subst (λ (x : Answer Result). Gives x k.result a.list.now k.new.list)
     (keeping_nothing (graph_of b) _ _ (drawn (form_3 c)) _ _ (format_of b) (length a.list.now) ∙ sym (whole c)) k.ensures

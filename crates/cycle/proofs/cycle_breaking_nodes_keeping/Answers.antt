@@ -110,4 +110,4 @@ choose-requires c =
 pub returns : goal.returns
 returns c =
     let k = c.choose in
-    subst (λ (x : Answer Result). Gives x k.result c.args.list.now k.new.1.1.1.1.0) (sym (whole c)) k.ensures
+    subst (λ (x : Answer Result). Gives x k.result c.args.list.now k.new.list) (sym (whole c)) k.ensures

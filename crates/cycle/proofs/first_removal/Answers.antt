@@ -35,10 +35,10 @@ peel-requires c =
     let g = graph_of a.src.now in
     let o = c.build in
     let p = c.seed_all-end in
-    let W = words o.new.0 in
-    let X = words p.new.0 in
-    let long : picked_at ≤ length W = omega (arith, length_words o.new.0, o.auto.0) in record {
-      from_le_end = (omega arith, omega (arith, f.few, f.nodes, f.edges), omega arith, p.ensures.few, omega (arith, p.auto.0, o.auto.0));
+    let W = words o.new.room in
+    let X = words p.new.room in
+    let long : picked_at ≤ length W = omega (arith, length_words o.new.room, o.auto.room) in record {
+      from_le_end = (omega arith, omega (arith, f.few, f.nodes, f.edges), omega arith, p.ensures.few, omega (arith, p.auto.room, o.auto.room));
       roomy = (
         seeded_roomy q g a.z.nodes n (drawn c.requires.stored) W X X long o.ensures p.result 0 p.ensures,
         subst (λ (r : Row). Lists (source a.src.now r) X a.z.nodes n) (sym c.body_row.ensures) (seeded_lists q g a.z.nodes n (drawn c.requires.stored) W X X long o.ensures p.result 0 p.ensures),
@@ -55,9 +55,9 @@ returns c =
     let o = c.build in
     let p = c.seed_all-end in
     let r = c.peel in
-    let W = words o.new.0 in
-    let X = words p.new.0 in
-    let Y = words r.new.0 in
-    let long : picked_at ≤ length W = omega (arith, length_words o.new.0, o.auto.0) in
+    let W = words o.new.room in
+    let X = words p.new.room in
+    let Y = words r.new.room in
+    let long : picked_at ≤ length W = omega (arith, length_words o.new.room, o.auto.room) in
     first q g a.z.nodes n (drawn c.requires.stored) W X Y long o.ensures p.result r.result p.ensures
     (subst (λ (w : Row). Went X Y n r.result (peel_from (n - 0) (list_in (source a.src.now w) X a.z.nodes) 0 (halves_in X n p.result))) c.body_row.ensures r.ensures)

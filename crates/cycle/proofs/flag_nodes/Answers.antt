@@ -42,9 +42,9 @@ returns-then-end-n c =
     let ids = span a.kept.now (row_at 0 a.z.width) 0 a.count in
     let f = c.first_removal-end in
     let x = c.clear in
-    let W = words f.new.0 in
-    let X = words x.new.0 in
-    let long : queue_at + 2 * a.z.nodes ≤ length W = omega (arith, d.few_nodes, length_words f.new.0, f.auto.0, c.requires.room_choice_in_bounds) in
+    let W = words f.new.room in
+    let X = words x.new.room in
+    let long : queue_at + 2 * a.z.nodes ≤ length W = omega (arith, d.few_nodes, length_words f.new.room, f.auto.room, c.requires.room_choice_in_bounds) in
     all_gone q g a.z.nodes n d W f.result long f.ensures X x.ensures ids c.if-end-n.true
 
 pub mark_kept-requires : goal.mark_kept-requires
@@ -63,10 +63,10 @@ make_queue-m-requires c =
     let ids = span a.kept.now (row_at 0 a.z.width) 0 a.count in
     let f = c.first_removal-end in
     let x = c.clear in
-    let W = words f.new.0 in
-    let X = words x.new.0 in
-    let long : queue_at + 2 * a.z.nodes ≤ length W = omega (arith, d.few_nodes, length_words f.new.0, f.auto.0, c.requires.room_choice_in_bounds) in
-    let k = c.mark_kept in record { nodes_le_n = (omega arith, d.few_nodes, d.few, omega (arith, d.few_nodes, c.requires.room_choice_in_bounds, f.auto.0, x.auto.0, k.auto.0)); all_small = (still_small q g a.z.nodes n d W f.result long f.ensures X x.ensures ids (words k.new.0) k.ensures, λ e. none_marked q g a.z.nodes n d W f.result long f.ensures X x.ensures ids (words k.new.0) k.ensures (ap (span a.kept.now (row_at 0 a.z.width) 0) e)) }
+    let W = words f.new.room in
+    let X = words x.new.room in
+    let long : queue_at + 2 * a.z.nodes ≤ length W = omega (arith, d.few_nodes, length_words f.new.room, f.auto.room, c.requires.room_choice_in_bounds) in
+    let k = c.mark_kept in record { nodes_le_n = (omega arith, d.few_nodes, d.few, omega (arith, d.few_nodes, c.requires.room_choice_in_bounds, f.auto.room, x.auto.room, k.auto.room)); all_small = (still_small q g a.z.nodes n d W f.result long f.ensures X x.ensures ids (words k.new.room) k.ensures, λ e. none_marked q g a.z.nodes n d W f.result long f.ensures X x.ensures ids (words k.new.room) k.ensures (ap (span a.kept.now (row_at 0 a.z.width) 0) e)) }
 
 pub returns-then-m-eq0 : goal.returns-then-m-eq0
 returns-then-m-eq0 c =
@@ -78,12 +78,12 @@ returns-then-m-eq0 c =
     let ids = span a.kept.now (row_at 0 a.z.width) 0 a.count in
     let f = c.first_removal-end in
     let x = c.clear in
-    let W = words f.new.0 in
-    let X = words x.new.0 in
-    let long : queue_at + 2 * a.z.nodes ≤ length W = omega (arith, d.few_nodes, length_words f.new.0, f.auto.0, c.requires.room_choice_in_bounds) in
+    let W = words f.new.room in
+    let X = words x.new.room in
+    let long : queue_at + 2 * a.z.nodes ≤ length W = omega (arith, d.few_nodes, length_words f.new.room, f.auto.room, c.requires.room_choice_in_bounds) in
     let k = c.mark_kept in
     let o = c.make_queue-m in
-    none_queued q g a.z.nodes n d W f.result long f.ensures X x.ensures ids (words k.new.0) k.ensures (words o.new.0) o.result o.ensures c.if-end-n.false c.if-m-eq0.true
+    none_queued q g a.z.nodes n d W f.result long f.ensures X x.ensures ids (words k.new.room) k.ensures (words o.new.room) o.result o.ensures c.if-end-n.false c.if-m-eq0.true
 
 pub body_row-requires : goal.body_row-requires
 body_row-requires c = (facts c.requires.stored.0).low
@@ -98,17 +98,17 @@ greedy_feedback_nodes-requires c =
     let ids = span a.kept.now (row_at 0 a.z.width) 0 a.count in
     let f = c.first_removal-end in
     let x = c.clear in
-    let W = words f.new.0 in
-    let X = words x.new.0 in
-    let long : queue_at + 2 * a.z.nodes ≤ length W = omega (arith, d.few_nodes, length_words f.new.0, f.auto.0, c.requires.room_choice_in_bounds) in
+    let W = words f.new.room in
+    let X = words x.new.room in
+    let long : queue_at + 2 * a.z.nodes ≤ length W = omega (arith, d.few_nodes, length_words f.new.room, f.auto.room, c.requires.room_choice_in_bounds) in
     let k = c.mark_kept in
     let o = c.make_queue-m in
-    let Y = words o.new.0 in
+    let Y = words o.new.room in
     let w = sym c.body_row.ensures in record {
-      nodes_le_n = (omega arith, d.few_nodes, d.few, f.ensures.few, positive c.if-m-eq0.false, omega (arith, d.few_nodes, c.requires.room_choice_in_bounds, f.auto.0, x.auto.0, k.auto.0, o.auto.0, o.ensures.few));
+      nodes_le_n = (omega arith, d.few_nodes, d.few, f.ensures.few, positive c.if-m-eq0.false, omega (arith, d.few_nodes, c.requires.room_choice_in_bounds, f.auto.room, x.auto.room, k.auto.room, o.auto.room, o.ensures.few));
       standing = (
-        subst (λ (r : Row). Standing (source a.src.now r) Y a.z.nodes n o.result f.result) w (standing q g a.z.nodes n d W f.result long f.ensures X x.ensures ids (words k.new.0) k.ensures Y o.result o.ensures),
-        subst (λ (r : Row). Underway (source a.src.now r) Y a.z.nodes n f.result) w (underway q g a.z.nodes n d W f.result long f.ensures X x.ensures ids (words k.new.0) k.ensures Y o.result o.ensures),
+        subst (λ (r : Row). Standing (source a.src.now r) Y a.z.nodes n o.result f.result) w (standing q g a.z.nodes n d W f.result long f.ensures X x.ensures ids (words k.new.room) k.ensures Y o.result o.ensures),
+        subst (λ (r : Row). Underway (source a.src.now r) Y a.z.nodes n f.result) w (underway q g a.z.nodes n d W f.result long f.ensures X x.ensures ids (words k.new.room) k.ensures Y o.result o.ensures),
       );
     }
 
@@ -122,13 +122,13 @@ returns c =
     let ids = span a.kept.now (row_at 0 a.z.width) 0 a.count in
     let f = c.first_removal-end in
     let x = c.clear in
-    let W = words f.new.0 in
-    let X = words x.new.0 in
-    let long : queue_at + 2 * a.z.nodes ≤ length W = omega (arith, d.few_nodes, length_words f.new.0, f.auto.0, c.requires.room_choice_in_bounds) in
+    let W = words f.new.room in
+    let X = words x.new.room in
+    let long : queue_at + 2 * a.z.nodes ≤ length W = omega (arith, d.few_nodes, length_words f.new.room, f.auto.room, c.requires.room_choice_in_bounds) in
     let k = c.mark_kept in
     let o = c.make_queue-m in
     let t = c.greedy_feedback_nodes in
-    let Y = words o.new.0 in
-    let Z = words t.new.0 in
-    all_flagged q g a.z.nodes n d W f.result long f.ensures X x.ensures ids (words k.new.0) k.ensures Y o.result o.ensures Z t.result
+    let Y = words o.new.room in
+    let Z = words t.new.room in
+    all_flagged q g a.z.nodes n d W f.result long f.ensures X x.ensures ids (words k.new.room) k.ensures Y o.result o.ensures Z t.result
     (subst (λ (r : Row). Answered (source a.src.now r) Y Z a.z.nodes n f.result t.result) c.body_row.ensures t.ensures)

@@ -33,7 +33,7 @@ below l f = ⊎_elim (λ e. absurd (f e)) (λ k. k) (eq-or-lt_of_le l)
 
 -- at each test: no more has gone than there is
 within : (c : At-loop-last) → (queue_at + 2 * c.args.m ≤ length (words c.loop-last.room)) × (c.loop-last.last + c.loop-last.ids ≤ c.args.n)
-within c =     let a = c.args in
+within c = let a = c.args in
     let l = c.loop-last in
     let u = c.requires.standing.1 in
     let long : queue_at + 2 * a.m ≤ length (words l.room) = omega (arith, length_words l.room, l.invariant.3) in
@@ -41,7 +41,7 @@ within c =     let a = c.args in
 
 -- at each test: no more has gone than there is
 within_2 : (c : After-slice_known-in-loop-last-1) → (queue_at + 2 * c.args.m ≤ length (words c.loop-last.room)) × (c.loop-last.last + c.loop-last.ids ≤ c.args.n)
-within_2 c =     let a = c.args in
+within_2 c = let a = c.args in
     let l = c.loop-last in
     let u = c.requires.standing.1 in
     let long : queue_at + 2 * a.m ≤ length (words l.room) = omega (arith, length_words l.room, l.invariant.3) in
@@ -49,15 +49,15 @@ within_2 c =     let a = c.args in
 
 -- the best node is one, and its degree is what was read
 low : (c : After-slice_known-in-loop-last-1) → c.next_candidate-best.result < c.args.nodes
-low c =     let a = c.args in
+low c = let a = c.args in
     let l = c.loop-last in
     let x = c.next_candidate-best in
-    may_low (words x.new.0) a.nodes x.result
-    (next_allowed (source a.s.now a.r) (words l.room) a.nodes a.n a.m l.last (omega arith) (omega arith) (omega arith) (omega arith) l.invariant.0 (within_2 c).0 l.invariant.1 (words x.new.0) x.result x.ensures)
+    may_low (words x.new.room) a.nodes x.result
+    (next_allowed (source a.s.now a.r) (words l.room) a.nodes a.n a.m l.last (omega arith) (omega arith) (omega arith) (omega arith) l.invariant.0 (within_2 c).0 l.invariant.1 (words x.new.room) x.result x.ensures)
 
 -- at each test: no more has gone than there is
 within_3 : (c : Then-word-eq0) → (queue_at + 2 * c.args.m ≤ length (words c.loop-last.room)) × (c.loop-last.last + c.loop-last.ids ≤ c.args.n)
-within_3 c =     let a = c.args in
+within_3 c = let a = c.args in
     let l = c.loop-last in
     let u = c.requires.standing.1 in
     let long : queue_at + 2 * a.m ≤ length (words l.room) = omega (arith, length_words l.room, l.invariant.3) in
@@ -65,27 +65,27 @@ within_3 c =     let a = c.args in
 
 -- the best node is one, and its degree is what was read
 low_2 : (c : Then-word-eq0) → c.next_candidate-best.result < c.args.nodes
-low_2 c =     let a = c.args in
+low_2 c = let a = c.args in
     let l = c.loop-last in
     let x = c.next_candidate-best in
-    may_low (words x.new.0) a.nodes x.result
-    (next_allowed (source a.s.now a.r) (words l.room) a.nodes a.n a.m l.last (omega arith) (omega arith) (omega arith) (omega arith) l.invariant.0 (within_3 c).0 l.invariant.1 (words x.new.0) x.result x.ensures)
+    may_low (words x.new.room) a.nodes x.result
+    (next_allowed (source a.s.now a.r) (words l.room) a.nodes a.n a.m l.last (omega arith) (omega arith) (omega arith) (omega arith) l.invariant.0 (within_3 c).0 l.invariant.1 (words x.new.room) x.result x.ensures)
 
 degree : (c : Then-word-eq0) → c.word.result ≡ get_or (degrees_in (words c.next_candidate-best.new.room) c.args.n) (2 * c.next_candidate-best.result) 0
-degree c =     let a = c.args in
+degree c = let a = c.args in
     let x = c.next_candidate-best in
-    c.word.ensures ∙ sym (get_or-take (2 * a.n) (words x.new.0) (2 * x.result) 0 (omega (arith, low_2 c)))
+    c.word.ensures ∙ sym (get_or-take (2 * a.n) (words x.new.room) (2 * x.result) 0 (omega (arith, low_2 c)))
 
 stuck : (c : Then-word-eq0) → (u : Underway (source c.args.s.now c.args.r) (words c.args.room.now) c.args.nodes c.args.n c.args.end)
     → keeping_choice u.arcs (may (words c.args.room.now) c.args.nodes) c.args.n ≡ refused (refusal 16)
-stuck c u =     let a = c.args in
+stuck c u = let a = c.args in
     let l = c.loop-last in
     let x = c.next_candidate-best in
-    run_stuck (source a.s.now a.r) (words a.room.now) a.nodes a.n a.m c.requires.nodes_le_n.0 c.requires.nodes_le_n.1 c.requires.nodes_le_n.2 c.requires.nodes_le_n.4 (words l.room) l.last l.ids l.invariant.0 (within_3 c).0 l.invariant.1 (words x.new.0) x.result x.ensures u.arcs (l.invariant.2 u) u.bounded c.loop-last-test.true (sym (degree c) ∙ c.if-word-eq0.true)
+    run_stuck (source a.s.now a.r) (words a.room.now) a.nodes a.n a.m c.requires.nodes_le_n.0 c.requires.nodes_le_n.1 c.requires.nodes_le_n.2 c.requires.nodes_le_n.4 (words l.room) l.last l.ids l.invariant.0 (within_3 c).0 l.invariant.1 (words x.new.room) x.result x.ensures u.arcs (l.invariant.2 u) u.bounded c.loop-last-test.true (sym (degree c) ∙ c.if-word-eq0.true)
 
 -- at each test: no more has gone than there is
 within_4 : (c : After-stage-arg-1) → (queue_at + 2 * c.args.m ≤ length (words c.loop-last.room)) × (c.loop-last.last + c.loop-last.ids ≤ c.args.n)
-within_4 c =     let a = c.args in
+within_4 c = let a = c.args in
     let l = c.loop-last in
     let u = c.requires.standing.1 in
     let long : queue_at + 2 * a.m ≤ length (words l.room) = omega (arith, length_words l.room, l.invariant.3) in
@@ -93,7 +93,7 @@ within_4 c =     let a = c.args in
 
 -- at each test: no more has gone than there is
 within_5 : (c : After-slice_known-in-loop-last-2-1) → (queue_at + 2 * c.args.m ≤ length (words c.loop-last.room)) × (c.loop-last.last + c.loop-last.ids ≤ c.args.n)
-within_5 c =     let a = c.args in
+within_5 c = let a = c.args in
     let l = c.loop-last in
     let u = c.requires.standing.1 in
     let long : queue_at + 2 * a.m ≤ length (words l.room) = omega (arith, length_words l.room, l.invariant.3) in
@@ -101,20 +101,20 @@ within_5 c =     let a = c.args in
 
 -- the best node is one, and its degree is what was read
 low_3 : (c : After-slice_known-in-loop-last-2-1) → c.next_candidate-best.result < c.args.nodes
-low_3 c =     let a = c.args in
+low_3 c = let a = c.args in
     let l = c.loop-last in
     let x = c.next_candidate-best in
-    may_low (words x.new.0) a.nodes x.result
-    (next_allowed (source a.s.now a.r) (words l.room) a.nodes a.n a.m l.last (omega arith) (omega arith) (omega arith) (omega arith) l.invariant.0 (within_5 c).0 l.invariant.1 (words x.new.0) x.result x.ensures)
+    may_low (words x.new.room) a.nodes x.result
+    (next_allowed (source a.s.now a.r) (words l.room) a.nodes a.n a.m l.last (omega arith) (omega arith) (omega arith) (omega arith) l.invariant.0 (within_5 c).0 l.invariant.1 (words x.new.room) x.result x.ensures)
 
 degree_2 : (c : After-slice_known-in-loop-last-2-1) → c.word.result ≡ get_or (degrees_in (words c.next_candidate-best.new.room) c.args.n) (2 * c.next_candidate-best.result) 0
-degree_2 c =     let a = c.args in
+degree_2 c = let a = c.args in
     let x = c.next_candidate-best in
-    c.word.ensures ∙ sym (get_or-take (2 * a.n) (words x.new.0) (2 * x.result) 0 (omega (arith, low_3 c)))
+    c.word.ensures ∙ sym (get_or-take (2 * a.n) (words x.new.room) (2 * x.result) 0 (omega (arith, low_3 c)))
 
 -- at each test: no more has gone than there is
 within_6 : (c : After-loop-last) → (queue_at + 2 * c.args.m ≤ length (words c.loop-last.room)) × (c.loop-last.last + c.loop-last.ids ≤ c.args.n)
-within_6 c =     let a = c.args in
+within_6 c = let a = c.args in
     let l = c.loop-last in
     let u = c.requires.standing.1 in
     let long : queue_at + 2 * a.m ≤ length (words l.room) = omega (arith, length_words l.room, l.invariant.3) in
@@ -122,7 +122,7 @@ within_6 c =     let a = c.args in
 
 done : (c : After-loop-last) → (u : Underway (source c.args.s.now c.args.r) (words c.args.room.now) c.args.nodes c.args.n c.args.end)
     → (d : Chosen) × (keeping_choice u.arcs (may (words c.args.room.now) c.args.nodes) c.args.n ≡ answered d) × Flagged c.args.nodes (words c.loop-last.room) d.ids × (d.free ≡ c.loop-last.last)
-done c u =     let a = c.args in
+done c u = let a = c.args in
     let l = c.loop-last in
     let e : l.last + l.ids ≡ a.n = omega arith in
     run_done (source a.s.now a.r) (words a.room.now) a.nodes a.n a.m c.requires.nodes_le_n.0 c.requires.nodes_le_n.1 c.requires.nodes_le_n.2 c.requires.nodes_le_n.4 (words l.room) l.last l.ids l.invariant.0 (within_6 c).0 u.arcs (l.invariant.2 u) u.bounded e
@@ -150,15 +150,19 @@ pub returns-then-word-eq0 : goal.returns-then-word-eq0
 returns-then-word-eq0 c = record {
   is = λ u. sym (ap (λ (a : Answer Chosen). numbered (free_of a)) (stuck c u));
   flags = λ u d e. absurd (never (sym (stuck c u) ∙ e));
+}
 
 pub stage-last-requires : goal.stage-last-requires
 stage-last-requires c =
     let a = c.args in
     let l = c.loop-last in
-    let x = c.next_candidate-best in record { nodes_le_n = (omega arith, omega arith, omega arith, l.invariant.0, omega (arith, x.auto.0, l.invariant.3)); standing = (
-        next_standing (source a.s.now a.r) (words l.room) a.nodes a.n a.m l.last (omega arith) (omega arith) (omega arith) (omega arith) l.invariant.0 (within_4 c).0 l.invariant.1 (words x.new.0) x.result x.ensures,
-        next_allowed (source a.s.now a.r) (words l.room) a.nodes a.n a.m l.last (omega arith) (omega arith) (omega arith) (omega arith) l.invariant.0 (within_4 c).0 l.invariant.1 (words x.new.0) x.result x.ensures,
-      ) }
+    let x = c.next_candidate-best in record {
+      nodes_le_n = (omega arith, omega arith, omega arith, l.invariant.0, omega (arith, x.auto.room, l.invariant.3));
+      standing = (
+        next_standing (source a.s.now a.r) (words l.room) a.nodes a.n a.m l.last (omega arith) (omega arith) (omega arith) (omega arith) l.invariant.0 (within_4 c).0 l.invariant.1 (words x.new.room) x.result x.ensures,
+        next_allowed (source a.s.now a.r) (words l.room) a.nodes a.n a.m l.last (omega arith) (omega arith) (omega arith) (omega arith) l.invariant.0 (within_4 c).0 l.invariant.1 (words x.new.room) x.result x.ensures,
+      );
+    }
 
 pub overflow_add-ids : goal.overflow_add-ids
 overflow_add-ids c = omega (arith, (within_5 c).1)
@@ -173,14 +177,15 @@ loop-last-preserved c =
     let x = c.next_candidate-best in
     let o = c.stage-last in
     let live : c.word.result ≡ 0 → ⊥ = c.if-word-eq0.false in
-    let alive : 0 < get_or (degrees_in (words x.new.0) a.n) (2 * x.result) 0 = subst (λ (k : ℕ). 0 < k) (degree_2 c) (positive live) in (
+    let alive : 0 < get_or (degrees_in (words x.new.room) a.n) (2 * x.result) 0 = subst (λ (k : ℕ). 0 < k) (degree_2 c) (positive live) in (
       o.ensures.few,
       o.ensures.standing,
-      λ u. run_turn (source a.s.now a.r) (words a.room.now) a.nodes a.n a.m c.requires.nodes_le_n.0 c.requires.nodes_le_n.1 c.requires.nodes_le_n.2 c.requires.nodes_le_n.4 (words l.room) l.last l.ids l.invariant.0 (within_5 c).0 l.invariant.1 (words x.new.0) x.result x.ensures u.arcs (l.invariant.2 u) alive (words o.new.0) o.result o.ensures,
-      o.auto.0 ∙ x.auto.0 ∙ l.invariant.3,
+      λ u. run_turn (source a.s.now a.r) (words a.room.now) a.nodes a.n a.m c.requires.nodes_le_n.0 c.requires.nodes_le_n.1 c.requires.nodes_le_n.2 c.requires.nodes_le_n.4 (words l.room) l.last l.ids l.invariant.0 (within_5 c).0 l.invariant.1 (words x.new.room) x.result x.ensures u.arcs (l.invariant.2 u) alive (words o.new.room) o.result o.ensures,
+      o.auto.room ∙ x.auto.room ∙ l.invariant.3,
     )
 
 pub returns : goal.returns
 returns c = record {
   is = λ u. let w = done c u in sym (ap (λ (a : Answer Chosen). numbered (free_of a)) w.1 ∙ ap (λ (k : ℕ). numbered (answered k)) w.3);
   flags = λ u d e. let w = done c u in subst (λ (k : Chosen). Flagged c.args.nodes (words c.loop-last.room) k.ids) (same_answer (sym w.1 ∙ e)) w.2;
+}

@@ -24,4 +24,4 @@ returns c =
     let q = source a.src.now (body_of a.z) in
     let g = graph_of a.src.now in
     let o = c.first_removal in
-    no_loop_is q g a.z.nodes n (drawn c.requires.stored) (words o.new.0) (omega (arith, length_words o.new.0, o.auto.0)) o.result o.ensures
+    no_loop_is q g a.z.nodes n (drawn c.requires.stored) (words o.new.room) (omega (arith, length_words o.new.room, o.auto.room)) o.result o.ensures

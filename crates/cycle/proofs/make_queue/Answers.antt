@@ -41,7 +41,7 @@ loop-v-preserved c =
     let a = c.args in
     let l = c.loop-v in
     let o = c.push_candidate-m in
-    (omega arith, making_turn (words a.room.now) a.nodes a.n (omega arith) (omega arith) (omega arith) (long_3 c) c.requires.all_small.0 (words l.room) l.v l.m (omega arith) l.invariant.1 (words o.new.0) o.result o.ensures, o.auto.0 ∙ l.invariant.2)
+    (omega arith, making_turn (words a.room.now) a.nodes a.n (omega arith) (omega arith) (omega arith) (long_3 c) c.requires.all_small.0 (words l.room) l.v l.m (omega arith) l.invariant.1 (words o.new.room) o.result o.ensures, o.auto.room ∙ l.invariant.2)
 
 pub returns : goal.returns
 returns c =

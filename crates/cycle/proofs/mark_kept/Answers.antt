@@ -52,7 +52,7 @@ loop-k-preserved c =
     let o = c.set_word in
     let ids = span a.kept.now a.r 0 l.k in (
       omega arith,
-      o.auto.0 ∙ l.invariant.1,
+      o.auto.room ∙ l.invariant.1,
       o.ensures ∙ (λ i. set (l.invariant.2 i) (picked_at + c.number-id.result) 2) ∙ sym (marked_next (words a.room.now) ids c.number-id.result)
           ∙ ap (kept_marked (words a.room.now)) ((λ i. ids ++ (read_2 c i ∷ [])) ∙ sym (span_next a.kept.now a.r 0 l.k)),
     )

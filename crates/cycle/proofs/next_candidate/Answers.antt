@@ -141,14 +141,14 @@ loop-top-smaller c =
     let a = c.args in
     let l = c.loop-top in
     let w = c.sink in
-    turn_less (words a.room.now) a.nodes a.n a.m (omega arith) (omega arith) (omega arith) (fits_3 c) (words l.room) _ _ _ (turning_2 c) (words w.new.0) w.ensures c.if-present-top.false
+    turn_less (words a.room.now) a.nodes a.n a.m (omega arith) (omega arith) (omega arith) (fits_3 c) (words l.room) _ _ _ (turning_2 c) (words w.new.room) w.ensures c.if-present-top.false
 
 pub loop-top-preserved : goal.loop-top-preserved
 loop-top-preserved c =
     let a = c.args in
     let l = c.loop-top in
     let w = c.sink in
-    (turn_queued (words a.room.now) a.nodes a.n a.m (omega arith) (omega arith) (omega arith) (fits_3 c) (words l.room) _ _ _ (turning_2 c) (words w.new.0) w.ensures, outside_trans l.invariant.1 w.ensures.frame, w.auto.0 ∙ l.invariant.2)
+    (turn_queued (words a.room.now) a.nodes a.n a.m (omega arith) (omega arith) (omega arith) (fits_3 c) (words l.room) _ _ _ (turning_2 c) (words w.new.room) w.ensures, outside_trans l.invariant.1 w.ensures.frame, w.auto.room ∙ l.invariant.2)
 
 pub returns : goal.returns
 returns c =

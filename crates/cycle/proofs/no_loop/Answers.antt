@@ -29,21 +29,21 @@ form : (c : After-refusal-in_default-pairs) → Stored c.args.src.now c.in-Sized
 form c = let b = c.args.src.now in
     let r = c.read-graph in
     let g = c.graph-1.given in
-    stored b r.result r.ensures (below_each 256 b (λ i l. omega (arith, c.type_inv.src i))) g.0.0 g.1
+    stored b r.result r.ensures (below_each 256 b (λ i l. omega (arith, c.type_inv.src i))) c.in-Sized.z c.in-Sized.is
 
 -- the form that was read
 form_2 : (c : After-is_acyclic-arg-1) → Stored c.args.src.now c.in-Sized.z
 form_2 c = let b = c.args.src.now in
     let r = c.read-graph in
     let g = c.graph-1.given in
-    stored b r.result r.ensures (below_each 256 b (λ i l. omega (arith, c.type_inv.src i))) g.0.0 g.1
+    stored b r.result r.ensures (below_each 256 b (λ i l. omega (arith, c.type_inv.src i))) c.in-Sized.z c.in-Sized.is
 
 -- the form that was read
 form_3 : (c : Then-is_acyclic) → Stored c.args.src.now c.in-Sized.z
 form_3 c = let b = c.args.src.now in
     let r = c.read-graph in
     let g = c.graph-1.given in
-    stored b r.result r.ensures (below_each 256 b (λ i l. omega (arith, c.type_inv.src i))) g.0.0 g.1
+    stored b r.result r.ensures (below_each 256 b (λ i l. omega (arith, c.type_inv.src i))) c.in-Sized.z c.in-Sized.is
 
 -- what was found
 decided : (c : Then-is_acyclic) → let a = c.args in outcome (no_loop_call a.src.now (length a.room.now)) ≡ Done (cond c.is_acyclic.result 1 0) 0
@@ -59,7 +59,7 @@ form_4 : (c : Else-is_acyclic) → Stored c.args.src.now c.in-Sized.z
 form_4 c = let b = c.args.src.now in
     let r = c.read-graph in
     let g = c.graph-1.given in
-    stored b r.result r.ensures (below_each 256 b (λ i l. omega (arith, c.type_inv.src i))) g.0.0 g.1
+    stored b r.result r.ensures (below_each 256 b (λ i l. omega (arith, c.type_inv.src i))) c.in-Sized.z c.in-Sized.is
 
 -- what was found
 decided_2 : (c : Else-is_acyclic) → let a = c.args in outcome (no_loop_call a.src.now (length a.room.now)) ≡ Done (cond c.is_acyclic.result 1 0) 0

@@ -50,5 +50,5 @@ returns c =
     record {
       barred = λ f. let z : ◌≡◌ {A = ℕ} 0 1 = cc (sym yes ∙ f) in absurd (omega arith);
       gone = λ z. absurd (c.if-word-eq0.false (c.word.ensures ∙ z));
-      alive = λ t p. (subst (Added W (words o.new.0) queue_at a.m) c.key_now-k.ensures o.ensures, refl);
+      alive = λ t p. (subst (Added W (words o.new.room) queue_at a.m) c.key_now-k.ensures o.ensures, refl);
     }

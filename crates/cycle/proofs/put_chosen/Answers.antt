@@ -27,8 +27,8 @@ loop-v-preserved c = let a = c.args in
     let W = words a.room.now in (
       omega arith,
       omega (arith, p.ensures.0, l.invariant.1, ap length (flagged_next W l.v), length-append (flagged_below W l.v) (shown W l.v)),
-      flagged_turn W a.list.now l.list p.new.0 a.r l.v l.k l.invariant.1 l.invariant.2 p.ensures.1,
-      p.auto.0 ∙ l.invariant.3,
+      flagged_turn W a.list.now l.list p.new.list a.r l.v l.k l.invariant.1 l.invariant.2 p.ensures.1,
+      p.auto.list ∙ l.invariant.3,
     )
 
 pub returns : goal.returns

@@ -31,13 +31,13 @@ set_word-requires c = omega (arith, may_low (words c.args.room.now) c.args.nodes
 pub remove_vertex-gone-requires : goal.remove_vertex-gone-requires
 remove_vertex-gone-requires c =
     let a = c.args in
-    let f = c.set_word in record { x_lt_n = (omega (arith, may_low (words a.room.now) a.nodes a.best c.requires.standing.1), omega arith, omega arith, omega arith, omega arith); roomy = (flag_roomy (source a.s.now a.r) (words a.room.now) a.nodes a.n a.m a.best a.end (omega arith) (omega arith) (omega arith) (omega arith) (long c) c.requires.standing.0 c.requires.standing.1 (words f.new.0) f.ensures, flag_lists (source a.s.now a.r) (words a.room.now) a.nodes a.n a.m a.best a.end (omega arith) (omega arith) (omega arith) (omega arith) (long c) c.requires.standing.0 c.requires.standing.1 (words f.new.0) f.ensures) }
+    let f = c.set_word in record { x_lt_n = (omega (arith, may_low (words a.room.now) a.nodes a.best c.requires.standing.1), omega arith, omega arith, omega arith, omega arith); roomy = (flag_roomy (source a.s.now a.r) (words a.room.now) a.nodes a.n a.m a.best a.end (omega arith) (omega arith) (omega arith) (omega arith) (long c) c.requires.standing.0 c.requires.standing.1 (words f.new.room) f.ensures, flag_lists (source a.s.now a.r) (words a.room.now) a.nodes a.n a.m a.best a.end (omega arith) (omega arith) (omega arith) (omega arith) (long c) c.requires.standing.0 c.requires.standing.1 (words f.new.room) f.ensures) }
 
 pub peel-requires : goal.peel-requires
 peel-requires c =
     let a = c.args in
     let f = c.set_word in
-    let p = c.remove_vertex-gone in record { from_le_end = (pick_later (source a.s.now a.r) (words a.room.now) a.nodes a.n a.m a.best a.end (omega arith) (omega arith) (omega arith) (omega arith) (long_2 c) c.requires.standing.0 c.requires.standing.1 (words f.new.0) f.ensures (words p.new.0) p.result p.ensures, omega arith, omega arith, p.ensures.few, omega arith); roomy = (pick_roomy (source a.s.now a.r) (words a.room.now) a.nodes a.n a.m a.best a.end (omega arith) (omega arith) (omega arith) (omega arith) (long_2 c) c.requires.standing.0 c.requires.standing.1 (words f.new.0) f.ensures (words p.new.0) p.result p.ensures, pick_lists (source a.s.now a.r) (words a.room.now) a.nodes a.n a.m a.best a.end (omega arith) (omega arith) (omega arith) (omega arith) (long_2 c) c.requires.standing.0 c.requires.standing.1 (words f.new.0) f.ensures (words p.new.0) p.result p.ensures) }
+    let p = c.remove_vertex-gone in record { from_le_end = (pick_later (source a.s.now a.r) (words a.room.now) a.nodes a.n a.m a.best a.end (omega arith) (omega arith) (omega arith) (omega arith) (long_2 c) c.requires.standing.0 c.requires.standing.1 (words f.new.room) f.ensures (words p.new.room) p.result p.ensures, omega arith, omega arith, p.ensures.few, omega arith); roomy = (pick_roomy (source a.s.now a.r) (words a.room.now) a.nodes a.n a.m a.best a.end (omega arith) (omega arith) (omega arith) (omega arith) (long_2 c) c.requires.standing.0 c.requires.standing.1 (words f.new.room) f.ensures (words p.new.room) p.result p.ensures, pick_lists (source a.s.now a.r) (words a.room.now) a.nodes a.n a.m a.best a.end (omega arith) (omega arith) (omega arith) (omega arith) (long_2 c) c.requires.standing.0 c.requires.standing.1 (words f.new.room) f.ensures (words p.new.room) p.result p.ensures) }
 
 pub returns : goal.returns
 returns c =
@@ -45,4 +45,4 @@ returns c =
     let f = c.set_word in
     let p = c.remove_vertex-gone in
     let o = c.peel in
-    staged (source a.s.now a.r) (words a.room.now) a.nodes a.n a.m a.best a.end (omega arith) (omega arith) (omega arith) (omega arith) (long_3 c) c.requires.standing.0 c.requires.standing.1 (words f.new.0) f.ensures (words p.new.0) p.result p.ensures (words o.new.0) o.result o.ensures
+    staged (source a.s.now a.r) (words a.room.now) a.nodes a.n a.m a.best a.end (omega arith) (omega arith) (omega arith) (omega arith) (long_3 c) c.requires.standing.0 c.requires.standing.1 (words f.new.room) f.ensures (words p.new.room) p.result p.ensures (words o.new.room) o.result o.ensures

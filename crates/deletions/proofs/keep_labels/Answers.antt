@@ -23,7 +23,7 @@ loop-k-preserved c =
     let a = c.args in
     let l = c.loop-k in
     let o = c.keep_label-to in
-    (omega arith, words_turned (words a.room.now) (words l.room) (words o.new.0) false a.off l.k l.to o.result l.invariant.1 (omega (arith, c.requires.1, c.requires.2, length_words a.room.now)) (omega (arith, c.requires.1)) o.ensures.words o.ensures.next, o.auto.0 ∙ l.invariant.2)
+    (omega arith, words_turned (words a.room.now) (words l.room) (words o.new.room) false a.off l.k l.to o.result l.invariant.1 (omega (arith, c.requires.1, c.requires.2, length_words a.room.now)) (omega (arith, c.requires.1)) o.ensures.words o.ensures.next, o.auto.room ∙ l.invariant.2)
 
 pub returns : goal.returns
 returns c =

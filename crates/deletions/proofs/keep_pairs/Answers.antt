@@ -42,7 +42,7 @@ loop-k-preserved c =
     let a = c.args in
     let l = c.loop-k in
     let o = c.keep_pair-to in
-    (omega arith, pairs_turned (words a.room.now) (words l.room) (words o.new.0) a.how a.off l.k l.to o.result l.invariant.1 (omega (arith, c.requires.1, c.requires.2, length_words a.room.now)) (omega (arith, c.requires.1)) o.ensures.words o.ensures.next, o.auto.0 ∙ l.invariant.2)
+    (omega arith, pairs_turned (words a.room.now) (words l.room) (words o.new.room) a.how a.off l.k l.to o.result l.invariant.1 (omega (arith, c.requires.1, c.requires.2, length_words a.room.now)) (omega (arith, c.requires.1)) o.ensures.words o.ensures.next, o.auto.room ∙ l.invariant.2)
 
 pub returns : goal.returns
 returns c =

@@ -62,10 +62,10 @@ loop-k-preserved c =
     span_next a.s.now a.r 0 l.k ∙ ap (λ (x : ℕ). span a.s.now a.r 0 l.k ++ (x ∷ [])) (ap (entry a.s.now a.r) z ∙ sym c.number-id.ensures.0) in
     let long : map_at + a.n ≤ length W = omega (arith, c.requires.2, c.requires.3, l.invariant.3, length_words l.room) in (
       omega arith,
-      subst (λ (is : List ℕ). Marked (words o.new.0) a.n is) (sym ids)
+      subst (λ (is : List ℕ). Marked (words o.new.room) a.n is) (sym ids)
           (subst (λ (X : List ℕ). Marked X a.n (span a.s.now a.r 0 l.k ++ (id ∷ []))) (sym o.ensures) (marked_next W a.n (span a.s.now a.r 0 l.k) id long lo l.invariant.1)),
       outside_trans l.invariant.2 (subst (λ (X : List ℕ). Outside map_at (map_at + a.n) W X) (sym o.ensures) (outside_set map_at (map_at + a.n) W (map_at + id) 1 (omega arith) (omega arith))),
-      o.auto.0 ∙ l.invariant.3,
+      o.auto.room ∙ l.invariant.3,
     )
 
 pub returns : goal.returns

@@ -26,7 +26,7 @@ loop-i-preserved c =
     let a = c.args in
     let l = c.loop-i in
     let o = c.number_one-to in
-    (omega arith, numbering_turn (words a.room.now) (words l.room) (words o.new.0) a.n l.i l.to o.result (omega (arith, c.requires.0, c.requires.1, length_words a.room.now)) (omega arith) l.invariant.1 o.ensures, o.auto.0 ∙ l.invariant.2)
+    (omega arith, numbering_turn (words a.room.now) (words l.room) (words o.new.room) a.n l.i l.to o.result (omega (arith, c.requires.0, c.requires.1, length_words a.room.now)) (omega arith) l.invariant.1 o.ensures, o.auto.room ∙ l.invariant.2)
 
 pub returns : goal.returns
 returns c =

@@ -39,7 +39,7 @@ loop-i-preserved c =
     let l = c.loop-i in
     let s = c.step-1.given in (
       omega arith,
-      one_more (meant a.f) a.s.now a.start l.at l.ports l.bound l.i l.invariant.1 c.read_edge-step.result c.read_edge-step.ensures.1 s.0.0 s.0.1.0 s.0.1.1.0 s.1,
+      one_more (meant a.f) a.s.now a.start l.at l.ports l.bound l.i l.invariant.1 c.read_edge-step.result c.read_edge-step.ensures.1 c.in-Next.p c.in-Next.a c.in-Next.b c.in-Next.is,
     )
 
 pub returns : goal.returns

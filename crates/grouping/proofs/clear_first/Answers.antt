@@ -20,7 +20,7 @@ loop-k-preserved c =
     let a = c.args in
     let l = c.loop-k in
     let o = c.set_word in
-    (omega arith, o.ensures ∙ ap (λ (W : List ℕ). set W (first_at + l.k) 0) l.invariant.1 ∙ fill_table (words a.room.now) first_at l.k 0, o.auto.0 ∙ l.invariant.2)
+    (omega arith, o.ensures ∙ ap (λ (W : List ℕ). set W (first_at + l.k) 0) l.invariant.1 ∙ fill_table (words a.room.now) first_at l.k 0, o.auto.room ∙ l.invariant.2)
 
 pub returns : goal.returns
 returns c =

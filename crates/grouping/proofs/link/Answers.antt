@@ -62,14 +62,14 @@ loop-k-preserved c =
     let o = c.link_one in
     let low = half_low W a.z S k (omega arith) in
     let one : k + 1 ≡ l.k = omega arith in
-    let frame : Outside next_at labels_at W (words o.new.0) =
+    let frame : Outside next_at labels_at W (words o.new.room) =
     subst (λ (X : List ℕ). Outside next_at labels_at W X) (sym o.ensures) (linked_frame a.z W k S.long (omega arith) S.few S.within.edges low) in (
       omega arith,
       subst (λ (X : List ℕ). LinkedFrom X a.z k) (sym o.ensures)
           (linked_turn a.z W k S.long (omega arith) S.few S.within.edges low (subst (LinkedFrom W a.z) (sym one) l.invariant.1)),
       outside_trans l.invariant.2 frame,
       same_sound a.z frame S,
-      o.auto.0 ∙ l.invariant.4,
+      o.auto.room ∙ l.invariant.4,
     )
 
 pub returns : goal.returns

@@ -82,7 +82,7 @@ loop-j-preserved c =
       omega (arith, l.invariant.0),
       omega arith,
       o.ensures ∙ (λ i. appended (next_2 c i) a.t (l.invariant.2 i)) ∙ sym (ap (λ (l : List ℕ). appended_all l a.t (words a.room.now)) more ∙ appended_snoc (take (l.j - a.from) ys) (get_or ys (l.j - a.from) 0) a.t (words a.room.now)),
-      o.auto.0 ∙ l.invariant.3,
+      o.auto.room ∙ l.invariant.3,
     )
 
 pub returns : goal.returns

@@ -22,14 +22,14 @@ lay_out-requires c =
     let a = c.args in
     let f = facts c.requires.0 in
     let o = c.count in
-    (omega (arith, f.nodes, f.few_nodes), omega (arith, o.auto.0), fits_table (source a.src.now (body_of a.z)) (graph_of a.src.now) a.z f (words o.new.0) o.ensures)
+    (omega (arith, f.nodes, f.few_nodes), omega (arith, o.auto.room), fits_table (source a.src.now (body_of a.z)) (graph_of a.src.now) a.z f (words o.new.room) o.ensures)
 
 pub fill-requires : goal.fill-requires
 fill-requires c =
     let a = c.args in
     let o = c.count in
     let p = c.lay_out in
-    record { stored = (c.requires.0, omega (arith, p.auto.0, o.auto.0)); empty = empty (source a.src.now (body_of a.z)) (graph_of a.src.now) a.z (facts c.requires.0) (words o.new.0) o.ensures (words p.new.0) p.ensures }
+    record { stored = (c.requires.0, omega (arith, p.auto.room, o.auto.room)); empty = empty (source a.src.now (body_of a.z)) (graph_of a.src.now) a.z (facts c.requires.0) (words o.new.room) o.ensures (words p.new.room) p.ensures }
 
 pub returns : goal.returns
 returns c =
@@ -37,5 +37,5 @@ returns c =
     let o = c.count in
     let p = c.lay_out in
     let q = c.fill in
-    built (source a.src.now (body_of a.z)) (graph_of a.src.now) a.z (facts c.requires.0) (words o.new.0) o.ensures (words p.new.0) p.ensures (words q.new.0) q.ensures
+    built (source a.src.now (body_of a.z)) (graph_of a.src.now) a.z (facts c.requires.0) (words o.new.room) o.ensures (words p.new.room) p.ensures (words q.new.room) q.ensures
     (proper_bounded (graph_of a.src.now) c.requires.0.formed.proper)

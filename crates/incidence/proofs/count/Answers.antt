@@ -34,7 +34,7 @@ loop-i-init c =
     let n = 2 * a.z.nodes in (
       omega arith,
       refl,
-      counts_start (graph_of a.src.now) f.known (source a.src.now (body_of a.z)) (words o.new.0)
+      counts_start (graph_of a.src.now) f.known (source a.src.now (body_of a.z)) (words o.new.room)
           (λ y l.
           let h : y < n = omega (arith, f.nodes) in
           let k = length-replicate {A = ℕ} n 0 in
@@ -47,7 +47,7 @@ pub count_edge-k-requires : goal.count_edge-k-requires
 count_edge-k-requires c = let l = c.loop-i in record { stored = (c.requires.0, omega arith, l.invariant.1, omega (arith, l.invariant.3)); counted_to = l.invariant.2 }
 
 pub loop-i-preserved : goal.loop-i-preserved
-loop-i-preserved c = let l = c.loop-i in let o = c.count_edge-k in (omega arith, o.ensures.0, o.ensures.1, o.auto.0 ∙ l.invariant.3)
+loop-i-preserved c = let l = c.loop-i in let o = c.count_edge-k in (omega arith, o.ensures.0, o.ensures.1, o.auto.room ∙ l.invariant.3)
 
 pub returns : goal.returns
 returns c =

@@ -160,7 +160,7 @@ count_ids-requires-2 c =
     let o = c.count_ids in
     let W = words c.note-2.new.room in
     let ys = form_list (source a.src.now c.body_row-r.result) e.first e.sources 1 in record {
-      holds = (targets_held c.requires.stored.0 a.i a.k c.requires.stored.1 e E _ row, omega arith, omega (arith, o.auto.0, c.note-2.auto.room, c.note.auto.room));
+      holds = (targets_held c.requires.stored.0 a.i a.k c.requires.stored.1 e E _ row, omega arith, omega (arith, o.auto.room, c.note-2.auto.room, c.note.auto.room));
       all_low = (
         λ t m. omega (arith, low t m, f.few),
         λ y m. omega (

@@ -36,7 +36,7 @@ count_some-requires-2 c =
     let some : 0 < a.count = omega (arith, c.if-count-eq0.false) in
     let q = source a.src.now a.r in
     let inside = in_rest q a.first a.count a.side some in record {
-      holds = (holds_less c.requires.holds.0 _ (omega arith), omega arith, omega arith, omega (arith, o.auto.0));
+      holds = (holds_less c.requires.holds.0 _ (omega arith), omega arith, omega arith, omega (arith, o.auto.room));
       all_low = (
         λ y m. c.requires.all_low.0 y (inside y m),
         λ y m. omega (

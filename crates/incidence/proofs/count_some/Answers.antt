@@ -112,7 +112,7 @@ loop-j-preserved c =
       omega (arith, l.invariant.0),
       omega arith,
       o.ensures ∙ (λ i. set (l.invariant.2 i) (next_3 c i) (value_2 c i + 1)) ∙ sym (ap (λ (l : List ℕ). bump_all l (words a.room.now)) more ∙ bump_snoc (take (l.j - a.from) ys) (get_or ys (l.j - a.from) 0) (words a.room.now)),
-      o.auto.0 ∙ l.invariant.3,
+      o.auto.room ∙ l.invariant.3,
     )
 
 pub returns : goal.returns

@@ -95,7 +95,7 @@ append_ids-requires-in-loop-i c =
     let low = targets_low c.requires.stored.0 l.i l.k (omega arith) e E _ row 1 (omega arith) in
     let B = form_list (source a.src.now c.body_row-r.result) (e.first + e.sources) e.targets 1 in
     let t = 2 * (a.z.nodes + l.i) + 1 in record {
-      holds = (targets_held c.requires.stored.0 l.i l.k (omega arith) e E _ row, omega arith, omega (arith, o.auto.0, l.invariant.3));
+      holds = (targets_held c.requires.stored.0 l.i l.k (omega arith) e E _ row, omega arith, omega (arith, o.auto.room, l.invariant.3));
       all_low = (
         λ t m. omega (arith, low t m, f.few),
         λ j h. subst (λ (X : List ℕ). start_of (appended_all (take j B) t X) (get_or B j 0) + count_of (appended_all (take j B) t X) (get_or B j 0) < most_ports) (sym o.ensures)
@@ -123,7 +123,7 @@ loop-i-preserved c =
       E.next,
       subst (λ (X : List ℕ). ListsFilled (words a.room.now) X (2 * a.z.nodes) (neighbours (arcs_to (graph_of a.src.now) (l.i + 1)))) (sym (p.ensures ∙ ap (appended_all B (t + 1)) o.ensures))
           (edge_filled c.requires.stored.0 l.i l.k (below c) e E _ row (words a.room.now) (words l.room) (omega (arith, length_words a.room.now)) c.requires.empty l.invariant.2 t refl),
-      p.auto.0 ∙ o.auto.0 ∙ l.invariant.3,
+      p.auto.room ∙ o.auto.room ∙ l.invariant.3,
     )
 
 pub returns : goal.returns

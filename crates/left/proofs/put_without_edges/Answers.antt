@@ -45,7 +45,7 @@ kept_2 : After-put_left_labels-arg-1 → Graph
 kept_2 c = unmarked_edges c.args.room.now c.args.z.edges (graph_of c.args.src.now)
 
 labels_there_2 : (c : After-put_left_labels-arg-1) → Holds c.args.out.now (labels_of c.args.y) (length (graph_of c.args.src.now).labels + length (map (λ (e : Edge). e.label) (kept_2 c).edges))
-unfolding kept
+unfolding kept_2
 labels_there_2 c = labels_room c.requires.stored.2 (fitting (kept_2 c)) (kept_2 c) c.requires.y_value
 
 nodes_2 : (c : After-put_left_labels-arg-1) → c.args.z.nodes ≡ length (graph_of c.args.src.now).labels
@@ -57,7 +57,7 @@ node_labels_lem c = subst (λ (o : List ℕ). Put o (labels_of c.args.y) 0 (grap
     (copied c.args.src.now 0 c.args.z.nodes c.copy_numbers.ensures c.label_row-new_labels.ensures c.label_row-labels.ensures (stored_rows c.requires.stored.0).labels (sym (zero-add _)))
 
 left : (c : After-put_left_labels-arg-1) → remaining (marked c.args.room.now c.args.z.edges) 0 (span c.args.src.now (labels_of c.args.z) c.args.z.nodes c.args.z.edges) ≡ map (λ (e : Edge). e.label) (kept_2 c).edges
-unfolding kept
+unfolding kept_2
 left c = left_labels c.requires.stored.0 (marked c.args.room.now c.args.z.edges)
 
 -- the graph that is left, its parts, and room for them
@@ -71,7 +71,7 @@ lists_of : After-put_left_edges-arg-1 → List ℕ
 lists_of c = (kept_3 c).sources ++ ((kept_3 c).targets ++ flat (kept_3 c).pairs)
 
 body_there : (c : After-put_left_edges-arg-1) → Holds c.args.out.now (body_of c.args.y) (length (edges-of c) + length (lists_of c))
-unfolding kept edges-of lists_of
+unfolding kept_3 edges-of lists_of
 body_there c = body_room c.requires.stored.2 (fitting (kept_3 c)) (kept_3 c) c.requires.y_value
 
 -- the labels of the nodes, and of all
@@ -80,11 +80,11 @@ node_labels_lem_2 c = subst (λ (o : List ℕ). Put o (labels_of c.args.y) 0 (gr
     (copied c.args.src.now 0 c.args.z.nodes c.copy_numbers.ensures c.label_row-new_labels.ensures c.label_row-labels.ensures (stored_rows c.requires.stored.0).labels (sym (zero-add _)))
 
 left_2 : (c : After-put_left_edges-arg-1) → remaining (marked c.args.room.now c.args.z.edges) 0 (span c.args.src.now (labels_of c.args.z) c.args.z.nodes c.args.z.edges) ≡ map (λ (e : Edge). e.label) (kept_3 c).edges
-unfolding kept
+unfolding kept_3
 left_2 c = left_labels c.requires.stored.0 (marked c.args.room.now c.args.z.edges)
 
 all_labels : (c : After-put_left_edges-arg-1) → Put (headed c.args.out.now c.args.y) (labels_of c.args.y) 0 (label_row (kept_3 c)) c.put_left_labels.new.out c.put_left_labels.result
-unfolding kept
+unfolding kept_3
 all_labels c = put_then (node_labels_lem_2 c)
     (subst (λ (l : List ℕ). Put c.copy_numbers.new.d (labels_of c.args.y) c.args.z.nodes l c.put_left_labels.new.out c.put_left_labels.result) (left_2 c) c.put_left_labels.ensures)
 
@@ -99,11 +99,11 @@ lists_of_2 : After-struct_known-5-1 → List ℕ
 lists_of_2 c = (kept_4 c).sources ++ ((kept_4 c).targets ++ flat (kept_4 c).pairs)
 
 body_there_2 : (c : After-struct_known-5-1) → Holds c.args.out.now (body_of c.args.y) (length (edges-of_2 c) + length (lists_of_2 c))
-unfolding kept edges-of lists_of
+unfolding kept_4 edges-of_2 lists_of_2
 body_there_2 c = body_room c.requires.stored.2 (fitting (kept_4 c)) (kept_4 c) c.requires.y_value
 
 lists_long : (c : After-struct_known-5-1) → length (lists_of_2 c) ≡ c.args.z.sources + (c.args.z.targets + 2 * c.args.z.pairs)
-unfolding kept lists_of
+unfolding kept_4 lists_of_2
 lists_long c = sym (ap length (lists_there c.requires.stored.0)) ∙ length_span c.args.src.now (body_of c.args.z) (lists_from c.args.z) _
 
 -- the labels of the nodes, and of all
@@ -112,11 +112,11 @@ node_labels_lem_3 c = subst (λ (o : List ℕ). Put o (labels_of c.args.y) 0 (gr
     (copied c.args.src.now 0 c.args.z.nodes c.copy_numbers.ensures c.label_row-new_labels.ensures c.label_row-labels.ensures (stored_rows c.requires.stored.0).labels (sym (zero-add _)))
 
 left_3 : (c : After-struct_known-5-1) → remaining (marked c.args.room.now c.args.z.edges) 0 (span c.args.src.now (labels_of c.args.z) c.args.z.nodes c.args.z.edges) ≡ map (λ (e : Edge). e.label) (kept_4 c).edges
-unfolding kept
+unfolding kept_4
 left_3 c = left_labels c.requires.stored.0 (marked c.args.room.now c.args.z.edges)
 
 all_labels_2 : (c : After-struct_known-5-1) → Put (headed c.args.out.now c.args.y) (labels_of c.args.y) 0 (label_row (kept_4 c)) c.put_left_labels.new.out c.put_left_labels.result
-unfolding kept
+unfolding kept_4
 all_labels_2 c = put_then (node_labels_lem_3 c)
     (subst (λ (l : List ℕ). Put c.copy_numbers.new.d (labels_of c.args.y) c.args.z.nodes l c.put_left_labels.new.out c.put_left_labels.result) (left_3 c) c.put_left_labels.ensures)
 
@@ -130,17 +130,17 @@ node_labels_lem_4 c = subst (λ (o : List ℕ). Put o (labels_of c.args.y) 0 (gr
     (copied c.args.src.now 0 c.args.z.nodes c.copy_numbers.ensures c.label_row-new_labels.ensures c.label_row-labels.ensures (stored_rows c.requires.stored.0).labels (sym (zero-add _)))
 
 left_4 : (c : After-slice_known-6-1) → remaining (marked c.args.room.now c.args.z.edges) 0 (span c.args.src.now (labels_of c.args.z) c.args.z.nodes c.args.z.edges) ≡ map (λ (e : Edge). e.label) (kept_5 c).edges
-unfolding kept
+unfolding kept_5
 left_4 c = left_labels c.requires.stored.0 (marked c.args.room.now c.args.z.edges)
 
 all_labels_3 : (c : After-slice_known-6-1) → Put (headed c.args.out.now c.args.y) (labels_of c.args.y) 0 (label_row (kept_5 c)) c.put_left_labels.new.out c.put_left_labels.result
-unfolding kept
+unfolding kept_5
 all_labels_3 c = put_then (node_labels_lem_4 c)
     (subst (λ (l : List ℕ). Put c.copy_numbers.new.d (labels_of c.args.y) c.args.z.nodes l c.put_left_labels.new.out c.put_left_labels.result) (left_4 c) c.put_left_labels.ensures)
 
 -- all counts and ids
 written : (c : After-slice_known-6-1) → Put c.put_left_labels.new.out c.body_row-new_body.result 0 (body (kept_5 c)) c.copy_numbers-2.new.d (c.put_left_edges-lists.result + (c.args.z.sources + (c.args.z.targets + 2 * c.args.z.pairs)))
-unfolding kept
+unfolding kept_5
 written c = put_then c.put_left_edges-lists.ensures
     (copied c.args.src.now (lists_from c.args.z) _ c.copy_numbers-2.ensures refl c.body_row.ensures (lists_there c.requires.stored.0) refl)
 
@@ -174,7 +174,7 @@ pub body_row-new_body-requires : goal.body_row-new_body-requires
 body_row-new_body-requires c = c.requires.stored.2.low
 
 pub put_left_edges-lists-requires : goal.put_left_edges-lists-requires
-unfolding kept edges-of lists_of
+unfolding kept_3 edges-of lists_of
 put_left_edges-lists-requires c = (
   c.requires.stored.0,
   c.requires.stored.1,
@@ -201,7 +201,7 @@ pub overflow_add-z : goal.overflow_add-z
 overflow_add-z c = let low = (stored_rows c.requires.stored.0).low in omega arith
 
 pub copy_numbers-requires-2 : goal.copy_numbers-requires-2
-unfolding kept edges-of
+unfolding kept_4 edges-of_2
 copy_numbers-requires-2 c =
     let rows = stored_rows c.requires.stored.0 in
     let p = c.put_left_edges-lists.ensures in (
@@ -212,7 +212,7 @@ copy_numbers-requires-2 c =
     )
 
 pub returns : goal.returns
-unfolding kept
+unfolding kept_5
 returns c =
     let a = c.args in
     drawn_by a.out.now a.y c.body_row-new_body.ensures (all_labels_3 c) (written c)

@@ -21,7 +21,7 @@ loop-k-preserved c =
     let l = c.loop-k in
     let a = c.args in
     let s = c.set_cell in
-    (omega arith, s.ensures ∙ rw l.invariant.1 (fill_table (cells a.room.now) a.from l.k a.v), s.auto.0 ∙ l.invariant.2)
+    (omega arith, s.ensures ∙ rw l.invariant.1 (fill_table (cells a.room.now) a.from l.k a.v), s.auto.room ∙ l.invariant.2)
 
 pub returns : goal.returns
 returns c =

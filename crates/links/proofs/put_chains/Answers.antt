@@ -17,7 +17,7 @@ use native.Mathlib.Omega.{arith}
 use Rattle.links.proofs.put_chains.Goals as goal
 
 pub overflow_add-a : goal.overflow_add-a
-overflow_add-a c = omega (arith, at_most_one c.args.first, c.XXChain_length.ensures.1)
+overflow_add-a c = omega (arith, at_most_one c.args.first, c.chain_length-a.ensures.1)
 
 pub overflow_add-b : goal.overflow_add-b
 overflow_add-b c = omega (arith, at_most_one (not c.args.first), c.chain_length-b.ensures.1)
@@ -25,7 +25,7 @@ overflow_add-b c = omega (arith, at_most_one (not c.args.first), c.chain_length-
 pub put_two-requires : goal.put_two-requires
 put_two-requires c = (
   holds_less c.requires.0.4 _ (omega arith),
-  omega (arith, at_most_one c.args.first, c.XXChain_length.ensures.1),
+  omega (arith, at_most_one c.args.first, c.chain_length-a.ensures.1),
   omega (arith, at_most_one (not c.args.first), c.chain_length-b.ensures.1),
 )
 
@@ -46,7 +46,7 @@ put_side-next-requires c =
     let p = c.requires.0 in
     let l = c.loop-half in
     let es = on_side l.half p.0 p.1 in
-    let na = c.XXChain_length.ensures.0 p.0 p.2 in
+    let na = c.chain_length-a.ensures.0 p.0 p.2 in
     let nb = c.chain_length-b.ensures.0 p.1 p.3 in
     let next = (l.invariant.4 p.0 p.1 p.2 p.3).next in
     let one = ap (λ (here : Bool). length (itself here a.id ++ es)) l.invariant.3 in
@@ -65,11 +65,11 @@ loop-half-preserved c =
     let l = c.loop-half in
     let f = c.put_side-next in (
       omega arith,
-      f.auto.1.1.1.1.1.1.0 ∙ l.invariant.1,
+      f.auto.out ∙ l.invariant.1,
       rw add-one,
       rw add-one,
       λ A B h k.
-          let na = c.XXChain_length.ensures.0 A h in
+          let na = c.chain_length-a.ensures.0 A h in
           let nb = c.chain_length-b.ensures.0 B k in
           let one = f.ensures (on_side l.half A B) (side_chain l.half (omega arith) (omega arith) h k) (l.invariant.2 ∙ side_length l.half A B na nb) in
           rw (add-one l.half) (put_then (l.invariant.4 A B h k) (rw l.invariant.3 at one)),
@@ -80,8 +80,8 @@ returns c = λ A B h k.
     let a = c.args in
     let l = c.loop-half in
     let two = c.put_two in
-    let na = c.XXChain_length.ensures.0 A h in
+    let na = c.chain_length-a.ensures.0 A h in
     let nb = c.chain_length-b.ensures.0 B k in
     let e = le_antisymm l.invariant.0 c.loop-half-test.false in
     row_done (one_side a.first a.id A B 0) (one_side a.first a.id A B 1) _ _ (omega (arith, with_itself a.first a.id A)) (omega (arith, with_itself (not a.first) a.id B)) two.ensures
-    (subst (λ (half : ℕ). Put two.new.0 a.r (a.k + 2) (sides_before a.first a.id A B half) l.out l.next) e (l.invariant.4 A B h k))
+    (subst (λ (half : ℕ). Put two.new.out a.r (a.k + 2) (sides_before a.first a.id A B half) l.out l.next) e (l.invariant.4 A B h k))

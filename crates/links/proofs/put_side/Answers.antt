@@ -41,7 +41,7 @@ put_chain-requires c =
     let p = c.put_itself in
     let e = p.ensures.next in (
       (c.requires.0.0, c.requires.0.1, omega (arith, c.requires.0.2)),
-      holds_same (holds_less c.requires.0.3 _ (omega (arith, long_3 c))) _ p.auto.0,
+      holds_same (holds_less c.requires.0.3 _ (omega (arith, long_3 c))) _ p.auto.out,
     )
 
 pub returns : goal.returns
@@ -50,4 +50,4 @@ returns c = λ es h e.
     let p = c.put_itself in
     let q = c.put_chain in
     let place : p.result + a.n - length es ≡ p.result = omega arith in
-    put_then p.ensures (record { stored = q.ensures es h ∙ ap (λ (j : ℕ). puts p.new.0 a.r j es) place; next = omega arith })
+    put_then p.ensures (record { stored = q.ensures es h ∙ ap (λ (j : ℕ). puts p.new.out a.r j es) place; next = omega arith })

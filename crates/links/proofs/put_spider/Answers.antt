@@ -65,7 +65,7 @@ loop-side-preserved c =
     let l = c.loop-side in
     let f = c.put_chains-next in (
       omega arith,
-      f.auto.1.1.1.1.1.0 ∙ l.invariant.1,
+      f.auto.out ∙ l.invariant.1,
       λ fresh t. rw (sides_more fresh a.id l.side) (put_then (l.invariant.2 fresh t) (f.ensures _ _ (chain_2 c fresh t _ (omega arith)) (chain_2 c fresh t _ (omega arith)))),
     )
 

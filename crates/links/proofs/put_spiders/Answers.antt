@@ -31,7 +31,7 @@ loop-id-preserved c =
     let a = c.args in
     let l = c.loop-id in
     let f = c.put_spider-k in
-    (omega arith, f.auto.1.1.1.0 ∙ l.invariant.1, λ fresh t. rw (spiders_more a.nodes (cells a.room.now) fresh l.id) (put_then (l.invariant.2 fresh t) (f.ensures fresh t)))
+    (omega arith, f.auto.out ∙ l.invariant.1, λ fresh t. rw (spiders_more a.nodes (cells a.room.now) fresh l.id) (put_then (l.invariant.2 fresh t) (f.ensures fresh t)))
 
 pub returns : goal.returns
 returns c = λ fresh t.

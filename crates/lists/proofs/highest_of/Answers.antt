@@ -15,14 +15,8 @@ use Rattle.le.proofs.Rows.{wide_some, span_next}
 use Rattle.lists.specs.Reach.{highest}
 use Rattle.lists.proofs.Reach.{highest_next}
 use Rattle.lists.proofs.highest_of.Goals as goal
+use Rattle.lists.proofs.highest_of.Invariants.{Looked}
 use Rattle.lists.proofs.highest_of.Goals.{After-higher-most, In-loop-place}
-
--- k ids are looked at, and the place is that of the next
-record Looked (s : List ℕ) (at n width most place : ℕ) : Type 0 where
-  k : ℕ
-  few : k ≤ n
-  here : place ≡ at + k * width
-  found : most ≡ highest (span s (row_at at width) 0 k)
 
 -- a place before the end is that of an id
 before_end : (at n width k place : ℕ) → place ≡ at + k * width → place < at + n * width → k < n

@@ -26,7 +26,7 @@ whole_2 c = record { wide = c.requires; inside = omega (arith, div-mul-le_self (
 
 pub returns-then-ids-width-ne0 : goal.returns-then-ids-width-ne0
 unfolding id_list ◌else◌ ◌>>◌
-returns-then-ids-width-ne0 c = rw (same, ne_eqb _ _ c.if-ids-width-ne0.true)
+returns-then-ids-width-ne0 c f same = rw (same, ne_eqb _ _ c.if-ids-width-ne0.true)
 
 pub reach_of-requires : goal.reach_of-requires
 reach_of-requires c = whole c
@@ -36,7 +36,7 @@ first_bad-requires c = whole_2 c
 
 pub returns-then-count-reach_of : goal.returns-then-count-reach_of
 unfolding id_list ◌else◌ ◌>>◌
-returns-then-count-reach_of c =
+returns-then-count-reach_of c f same =
     let a = c.args in
     let ids = numbers a.width (length a.ids.now / a.width) a.ids.now in
     let l : a.count < reach ids = omega (arith, c.reach_of.ensures) in
@@ -44,7 +44,7 @@ returns-then-count-reach_of c =
 
 pub returns : goal.returns
 unfolding id_list ◌else◌ ◌>>◌
-returns c =
+returns c f same =
     let a = c.args in
     let ids = numbers a.width (length a.ids.now / a.width) a.ids.now in
     let l : reach ids ≤ a.count = omega (arith, c.reach_of.ensures) in

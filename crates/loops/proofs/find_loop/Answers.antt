@@ -130,7 +130,7 @@ returns-then-end-n c =
     let s = form_4 c in
     let z = c.in-Sized.z in
     let o = c.first_removal-end in
-    let none = none_left (source b (body_of z)) (graph_of b) z.nodes (z.nodes + z.edges) (drawn s) (words o.new.0) (omega (arith, length_words o.new.0, o.auto.0, long_2 c)) o.result o.ensures c.if-end-n.true in
+    let none = none_left (source b (body_of z)) (graph_of b) z.nodes (z.nodes + z.edges) (drawn s) (words o.new.room) (omega (arith, length_words o.new.room, o.auto.room, long_2 c)) o.result o.ensures c.if-end-n.true in
     subst (λ (x : Answer Result). Gives x (Done 0 0) a.list.now a.list.now) (sym (whole c ∙ ap (showing (format_of b) (length a.list.now)) none))
     (showing_0 (format_of b) (format_of b).width refl [] 0 0 refl a.list.now a.list.now (omega arith) (sym (puts_none a.list.now (row_at 0 (format_of b).width) 0)))
 
@@ -141,7 +141,7 @@ show_loop-requires c =
     let z = c.in-Sized.z in
     let o = c.first_removal-end in
     let n = z.nodes + z.edges in
-    let e : o.result ≡ n - (n - o.result) = omega (arith, o.ensures.few) in record { room_removal_in_bounds = (omega (arith, long_3 c, o.auto.0), s, some_stay o.result n o.ensures.few c.if-end-n.false, omega arith); first = subst (First (source b (body_of z)) (graph_of b) (words o.new.0) z.nodes n) e o.ensures }
+    let e : o.result ≡ n - (n - o.result) = omega (arith, o.ensures.few) in record { room_removal_in_bounds = (omega (arith, long_3 c, o.auto.room), s, some_stay o.result n o.ensures.few c.if-end-n.false, omega arith); first = subst (First (source b (body_of z)) (graph_of b) (words o.new.room) z.nodes n) e o.ensures }
 
 pub returns : goal.returns
 returns c =
@@ -150,4 +150,4 @@ returns c =
     let s = form_6 c in
     let o = c.show_loop in
     let width : (format_of b).width ≡ c.in-Sized.z.width = ap (λ (y : Sizes). y.width) (sym s.sizes) in
-    subst (λ (x : Answer Result). Gives x o.result a.list.now o.new.0) (sym (whole_2 c)) (o.ensures (format_of b) width)
+    subst (λ (x : Answer Result). Gives x o.result a.list.now o.new.list) (sym (whole_2 c)) (o.ensures (format_of b) width)

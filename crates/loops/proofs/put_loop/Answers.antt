@@ -46,5 +46,5 @@ returns c =
     let a = c.args in
     let o = c.copy_numbers in
     λ f e.
-    showing_0 f a.width e _ a.steps _ (many_2 c) a.list.now o.new.0 c.if-list-count.false
+    showing_0 f a.width e _ a.steps _ (many_2 c) a.list.now o.new.d c.if-list-count.false
     (o.ensures ∙ ap (puts a.list.now (row_at 0 a.width) 0) (span_part a.room.now waiting_at a.count (omega arith)))

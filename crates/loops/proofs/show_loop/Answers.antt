@@ -63,7 +63,7 @@ laid : (c : After-put_loop-arg-1) → let a = c.args in
     LaidIn (words c.lay_loop-count.new.room) (c.walk-c.result.again ∷ (ring (source a.src.now (body_of a.z)) (words a.room.now) a.z.nodes a.left (first_3 c)).0) c.lay_loop-count.result
 laid c = let a = c.args in
     let o = c.lay_loop-count in
-    subst (λ (r : Row). (u : Looping (source a.src.now r) (words a.room.now) a.z.nodes c.walk-c.result.again) → LaidIn (words o.new.0) (c.walk-c.result.again ∷ u.others) o.result)
+    subst (λ (r : Row). (u : Looping (source a.src.now r) (words a.room.now) a.z.nodes c.walk-c.result.again) → LaidIn (words o.new.room) (c.walk-c.result.again ∷ u.others) o.result)
     c.body_row-r.ensures o.ensures
     (looping (source a.src.now (body_of a.z)) (words a.room.now) a.z.nodes a.left (first_3 c) c.walk-c.result.again (closed_2 c).again)
 
@@ -86,7 +86,7 @@ laid_2 : (c : After-slice_known-4-1) → let a = c.args in
     LaidIn (words c.lay_loop-count.new.room) (c.walk-c.result.again ∷ (ring (source a.src.now (body_of a.z)) (words a.room.now) a.z.nodes a.left (first_4 c)).0) c.lay_loop-count.result
 laid_2 c = let a = c.args in
     let o = c.lay_loop-count in
-    subst (λ (r : Row). (u : Looping (source a.src.now r) (words a.room.now) a.z.nodes c.walk-c.result.again) → LaidIn (words o.new.0) (c.walk-c.result.again ∷ u.others) o.result)
+    subst (λ (r : Row). (u : Looping (source a.src.now r) (words a.room.now) a.z.nodes c.walk-c.result.again) → LaidIn (words o.new.room) (c.walk-c.result.again ∷ u.others) o.result)
     c.body_row-r.ensures o.ensures
     (looping (source a.src.now (body_of a.z)) (words a.room.now) a.z.nodes a.left (first_4 c) c.walk-c.result.again (closed_3 c).again)
 
@@ -123,4 +123,4 @@ returns c =
     let n = a.z.nodes + a.z.edges in
     let shown = laid_shown q W a.z.nodes a.left (first_4 c) c.walk-c.result.again (closed_3 c).again (words c.lay_loop-count.new.room) c.walk-c.result.steps c.lay_loop-count.result (laid_2 c) (closed_3 c) in
     let is = loop_walked q (graph_of a.src.now) a.z.nodes n (drawn c.requires.room_removal_in_bounds.1) W (omega (arith, length_words a.room.now)) (n - a.left) c.requires.first a.left (omega arith) (omega arith) in
-    λ f e. subst (λ (x : Loop). Gives (showing f (length a.list.now) x) p.result a.list.now p.new.0) (shown ∙ sym is) (p.ensures f e)
+    λ f e. subst (λ (x : Loop). Gives (showing f (length a.list.now) x) p.result a.list.now p.new.list) (shown ∙ sym is) (p.ensures f e)

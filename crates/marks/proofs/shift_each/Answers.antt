@@ -29,7 +29,7 @@ loop-j-preserved c =
     let l = c.loop-j in
     let o = c.shift in
     let x = c.number-id in
-    (omega arith, o.auto.0 ∙ l.invariant.1, shift_turn a.src.now a.r a.first a.count l.j x.result x.ensures.0 a.delta a.room.now l.room o.new.0 l.invariant.2 o.ensures)
+    (omega arith, o.auto.room ∙ l.invariant.1, shift_turn a.src.now a.r a.first a.count l.j x.result x.ensures.0 a.delta a.room.now l.room o.new.room l.invariant.2 o.ensures)
 
 pub returns : goal.returns
 returns c =

@@ -18,7 +18,7 @@ returns-then-room-v-ne1 c =
     (ne_eqb (get_or a.room.now a.v 0 % 2) 1 c.if-room-v-ne1.true))
 
 pub some_left-requires : goal.some_left-requires
-some_left-requires c = let p = c.requires in (holds_less p.0.0 _ (omega arith), p.1.0, p.0.2)
+some_left-requires c = let p = c.requires in (holds_less p.holds.0 _ (omega arith), p.below.0, p.holds.2)
 
 pub returns-then-not-some_left : goal.returns-then-not-some_left
 returns-then-not-some_left c =
@@ -31,7 +31,7 @@ pub overflow_add-e : goal.overflow_add-e
 overflow_add-e c = omega (arith, holds_index c.requires.holds.0)
 
 pub some_left-requires-2 : goal.some_left-requires-2
-some_left-requires-2 c = let p = c.requires in (p.0.0, p.1.1, p.0.2)
+some_left-requires-2 c = let p = c.requires in (p.holds.0, p.below.1, p.holds.2)
 
 pub returns : goal.returns
 returns c =

@@ -24,7 +24,7 @@ loop-v-preserved c =
     let a = c.args in
     let l = c.loop-v in
     let o = c.test-gone in
-    (omega arith, o.auto.0 ∙ l.invariant.1, omega (arith, few c, l.invariant.2), count_turn a.room.now l.room o.new.0 l.v l.gone o.result l.invariant.3 o.ensures)
+    (omega arith, o.auto.room ∙ l.invariant.1, omega (arith, few c, l.invariant.2), count_turn a.room.now l.room o.new.room l.v l.gone o.result l.invariant.3 o.ensures)
 
 pub returns : goal.returns
 returns c =

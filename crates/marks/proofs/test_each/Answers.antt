@@ -38,9 +38,9 @@ loop-j-preserved c =
     let o = c.test-gone in
     let x = c.number-id in (
       omega arith,
-      o.auto.0 ∙ l.invariant.1,
+      o.auto.room ∙ l.invariant.1,
       omega (arith, few c, l.invariant.2),
-      test_turn a.src.now a.r a.first a.count l.j x.result x.ensures.0 a.room.now l.room o.new.0 l.gone o.result l.invariant.3 o.ensures,
+      test_turn a.src.now a.r a.first a.count l.j x.result x.ensures.0 a.room.now l.room o.new.room l.gone o.result l.invariant.3 o.ensures,
     )
 
 pub returns : goal.returns

@@ -26,4 +26,4 @@ returns c =
     let low = lowered s t a.v a.room.now in
     let all = span_append a.src.now a.r a.e.first a.e.sources a.e.targets in
     let e : must_go s t a.v a.room.now ≡ true = not-false _ (sym c.stays.ensures ∙ c.if-stays.false) in
-    let one : 1 + went_of (s ++ t) low ≡ suc (went_of (s ++ t) low) = omega arith in record { value = o.ensures.0 ∙ ap (λ (l : List ℕ). 1 + went_of l low) all ∙ one ∙ sym (ap (λ (b : Bool). cond b (suc (went_of (s ++ t) low)) 0) e); room_after = o.ensures.1 ∙ ap (λ (l : List ℕ). tested_all l low) all ∙ sym (ap (λ (b : Bool). cond b (tested_all (s ++ t) low) a.room.now) e) }
+    let one : 1 + went_of (s ++ t) low ≡ suc (went_of (s ++ t) low) = omega arith in record { value = o.ensures.value ∙ ap (λ (l : List ℕ). 1 + went_of l low) all ∙ one ∙ sym (ap (λ (b : Bool). cond b (suc (went_of (s ++ t) low)) 0) e); room_after = o.ensures.room_after ∙ ap (λ (l : List ℕ). tested_all l low) all ∙ sym (ap (λ (b : Bool). cond b (tested_all (s ++ t) low) a.room.now) e) }

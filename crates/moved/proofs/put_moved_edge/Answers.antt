@@ -35,21 +35,9 @@ abbrev targets : After-put_moved-arg-1 → List ℕ
 targets c = renamed (gone_in c.args.z c.args.map.now) (edge_of c.args.src.now c.args.z c.args.e).targets
 
 lists : (c : After-put_moved-arg-1) → ids_2 c (c.args.e.sources + c.args.e.targets) ≡ ids_2 c c.args.e.sources ++ targets c
-lists c =     let a = c.args in
+lists c = let a = c.args in
     let goes = gone_in a.z a.map.now in
     ap (renamed goes) (span_append a.src.now (body_of a.z) a.e.first a.e.sources a.e.targets) ∙ renamed_append goes (edge_of a.src.now a.z a.e).sources (edge_of a.src.now a.z a.e).targets
-
--- where the sources end and where the targets end
-_ _ (c : After-put_moved-arg-1) where
-  all : Put c.args.out.now c.args.to (c.args.j + 2) (ids_2 c (c.args.e.sources + c.args.e.targets)) c.loop-i.out c.loop-i.end
-  all = subst (λ (n : ℕ). Put c.args.out.now c.args.to (c.args.j + 2) (ids_2 c n) c.loop-i.out c.loop-i.end) (le_antisymm c.loop-i.invariant.0 c.loop-i-test.false) c.loop-i.invariant.2
-
-  middle : c.loop-i.middle ≡ c.args.j + 2 + length (ids_2 c c.args.e.sources)
-  middle = c.loop-i.invariant.1 (omega arith)
-
-  end : c.loop-i.end ≡ c.loop-i.middle + length (targets c)
-  end = omega (arith, all.next, middle, ap length (lists c), length-append (ids_2 c c.args.e.sources) (targets c))
-
 
 -- room for both counts and both lists
 room : (c : After-put_moved-arg-1) → Holds c.args.out.now c.args.to (c.args.j + 2 + length (ids_2 c (c.args.e.sources + c.args.e.targets)))
@@ -75,25 +63,23 @@ abbrev targets_2 : After-put_two-arg-1 → List ℕ
 targets_2 c = renamed (gone_in c.args.z c.args.map.now) (edge_of c.args.src.now c.args.z c.args.e).targets
 
 lists_2 : (c : After-put_two-arg-1) → ids_4 c (c.args.e.sources + c.args.e.targets) ≡ ids_4 c c.args.e.sources ++ targets_2 c
-lists_2 c =     let a = c.args in
+lists_2 c = let a = c.args in
     let goes = gone_in a.z a.map.now in
     ap (renamed goes) (span_append a.src.now (body_of a.z) a.e.first a.e.sources a.e.targets) ∙ renamed_append goes (edge_of a.src.now a.z a.e).sources (edge_of a.src.now a.z a.e).targets
 
--- where the sources end and where the targets end
-__2 __2 (c : After-put_two-arg-1) where
-  all : Put c.args.out.now c.args.to (c.args.j + 2) (ids_4 c (c.args.e.sources + c.args.e.targets)) c.loop-i.out c.loop-i.end
-  all = subst (λ (n : ℕ). Put c.args.out.now c.args.to (c.args.j + 2) (ids_4 c n) c.loop-i.out c.loop-i.end) (le_antisymm c.loop-i.invariant.0 c.loop-i-test.false) c.loop-i.invariant.2
-
-  middle : c.loop-i.middle ≡ c.args.j + 2 + length (ids_4 c c.args.e.sources)
-  middle = c.loop-i.invariant.1 (omega arith)
-
-  end : c.loop-i.end ≡ c.loop-i.middle + length (targets_2 c)
-  end = omega (arith, all.next, middle, ap length (lists_2 c), length-append (ids_4 c c.args.e.sources) (targets_2 c))
-
-
 -- room for both counts and both lists
 room_2 : (c : After-put_two-arg-1) → Holds c.args.out.now c.args.to (c.args.j + 2 + length (ids_4 c (c.args.e.sources + c.args.e.targets)))
-room_2 c = holds_less c.requires.targets_bound.1 __2 (omega (arith, ap length (lists_2 c)))
+room_2 c = holds_less c.requires.targets_bound.1 _ (omega (arith, ap length (lists_2 c)))
+
+-- where the sources end and where the targets end
+all : (c : After-put_two-arg-1) → Put c.args.out.now c.args.to (c.args.j + 2) (ids_4 c (c.args.e.sources + c.args.e.targets)) c.loop-i.out c.loop-i.end
+all c = subst (λ (n : ℕ). Put c.args.out.now c.args.to (c.args.j + 2) (ids_4 c n) c.loop-i.out c.loop-i.end) (le_antisymm c.loop-i.invariant.0 c.loop-i-test.false) c.loop-i.invariant.2
+
+middle : (c : After-put_two-arg-1) → c.loop-i.middle ≡ c.args.j + 2 + length (ids_4 c c.args.e.sources)
+middle c = c.loop-i.invariant.1 (omega arith)
+
+end : (c : After-put_two-arg-1) → c.loop-i.end ≡ c.loop-i.middle + length (targets_2 c)
+end c = omega (arith, all.next, middle, ap length (lists_2 c), length-append (ids_4 c c.args.e.sources) (targets_2 c))
 
 -- the new ids of the first n, of the sources and of the targets
 abbrev ids_5 : After-slice_known-2-1 → ℕ → List ℕ
@@ -103,9 +89,19 @@ abbrev targets_3 : After-slice_known-2-1 → List ℕ
 targets_3 c = renamed (gone_in c.args.z c.args.map.now) (edge_of c.args.src.now c.args.z c.args.e).targets
 
 lists_3 : (c : After-slice_known-2-1) → ids_5 c (c.args.e.sources + c.args.e.targets) ≡ ids_5 c c.args.e.sources ++ targets_3 c
-lists_3 c =     let a = c.args in
+lists_3 c = let a = c.args in
     let goes = gone_in a.z a.map.now in
     ap (renamed goes) (span_append a.src.now (body_of a.z) a.e.first a.e.sources a.e.targets) ∙ renamed_append goes (edge_of a.src.now a.z a.e).sources (edge_of a.src.now a.z a.e).targets
+
+-- where the sources end and where the targets end
+all_2 : (c : After-slice_known-2-1) → Put c.args.out.now c.args.to (c.args.j + 2) (ids_5 c (c.args.e.sources + c.args.e.targets)) c.loop-i.out c.loop-i.end
+all_2 c = subst (λ (n : ℕ). Put c.args.out.now c.args.to (c.args.j + 2) (ids_5 c n) c.loop-i.out c.loop-i.end) (le_antisymm c.loop-i.invariant.0 c.loop-i-test.false) c.loop-i.invariant.2
+
+middle_2 : (c : After-slice_known-2-1) → c.loop-i.middle ≡ c.args.j + 2 + length (ids_5 c c.args.e.sources)
+middle_2 c = c.loop-i.invariant.1 (omega arith)
+
+end_2 : (c : After-slice_known-2-1) → c.loop-i.end ≡ c.loop-i.middle + length (targets_3 c)
+end_2 c = omega (arith, all_2.next, middle_2, ap length (lists_3 c), length-append (ids_5 c c.args.e.sources) (targets_3 c))
 
 pub loop-i-init : goal.loop-i-init
 unfolding span
@@ -130,7 +126,7 @@ loop-i-preserved c =
     let p = c.put_moved-end in
     let goes = gone_in a.z a.map.now in
     let put = put_more (ids_grow goes a.src.now (body_of a.z) a.e.first (a.e.sources + a.e.targets)) (omega (arith, c.loop-i-test.true)) l.invariant.2
-    (subst (λ (v : ℕ). Put l.out a.to l.end (renamed goes (v ∷ [])) p.new.1.1.1.0 p.result) (read_2 c) p.ensures) in (
+    (subst (λ (v : ℕ). Put l.out a.to l.end (renamed goes (v ∷ [])) p.new.out p.result) (read_2 c) p.ensures) in (
       omega (arith, c.loop-i-test.true),
       (λ h. ⊎_elim
           (λ w. let last : l.i + 1 ≡ a.e.sources = omega arith in omega (arith, w.1, put.next, ap (λ (n : ℕ). length (ids_3 c n)) last))
@@ -145,7 +141,7 @@ put_two-requires c =
     let goes = gone_in a.z a.map.now in
     let few = renamed_fewer goes (span a.src.now (body_of a.z) a.e.first (a.e.sources + a.e.targets)) in
     let many = length_span a.src.now (body_of a.z) a.e.first (a.e.sources + a.e.targets) in (
-      holds_same (holds_less (room_2 c) __2 (omega arith)) __2 (put_length (all c)),
+      holds_same (holds_less (room_2 c) _ (omega arith)) _ (put_length (all c)),
       omega (arith, middle c, end c, (all c).next, c.requires.targets_bound.0),
       omega (arith, middle c, end c, (all c).next, c.requires.targets_bound.0),
     )
@@ -155,10 +151,10 @@ returns c =
     let a = c.args in
     let l = c.loop-i in
     let first = ids_5 c a.e.sources in
-    let n : l.middle - (a.j + 2) ≡ length first = omega (arith, middle c) in
-    let m : l.end - l.middle ≡ length (targets_3 c) = omega (arith, end c) in
+    let n : l.middle - (a.j + 2) ≡ length first = omega (arith, middle_2 c) in
+    let m : l.end - l.middle ≡ length (targets_3 c) = omega (arith, end_2 c) in
     record {
-      stored = c.put_two.ensures ∙ (λ i. puts (((all c).stored ∙ ap (puts a.out.now a.to (a.j + 2)) (lists_3 c)) i) a.to a.j (n i ∷ m i ∷ []))
+      stored = c.put_two.ensures ∙ (λ i. puts (((all_2 c).stored ∙ ap (puts a.out.now a.to (a.j + 2)) (lists_3 c)) i) a.to a.j (n i ∷ m i ∷ []))
           ∙ counts_last a.out.now a.to a.j (length first) (length (targets_3 c)) (first ++ targets_3 c);
-      next = omega (arith, middle c, end c, length-append first (targets_3 c));
+      next = omega (arith, middle_2 c, end_2 c, length-append first (targets_3 c));
     }

@@ -74,7 +74,7 @@ loop-i-preserved c =
       omega arith,
       m.end,
       put_more (moved_grow goes edge_row (graph_of a.src.now).edges) (edge_less c.requires.0 l.i (omega arith)) l.invariant.2
-          (subst (λ (r : List ℕ). Put l.out a.to l.j r p.new.1.1.1.1.0 p.result) (same_row m goes) p.ensures),
+          (subst (λ (r : List ℕ). Put l.out a.to l.j r p.new.out p.result) (same_row m goes) p.ensures),
     )
 
 pub returns : goal.returns

@@ -51,16 +51,16 @@ kept_2 : After-copy_numbers-arg-1 → Graph
 kept_2 c = without_nodes (goes_2 c) (graph_of c.args.src.now)
 
 labels_there_2 : (c : After-copy_numbers-arg-1) → Holds c.args.out.now (labels_of c.args.y) (length (kept_2 c).labels + length (map (λ (e : Edge). e.label) (kept_2 c).edges))
-unfolding kept
+unfolding kept_2
 labels_there_2 c = labels_room c.requires.stored.2 (fitting (kept_2 c)) (kept_2 c) c.requires.y_value
 
 edge_count : (c : After-copy_numbers-arg-1) → c.args.z.edges ≡ length (map (λ (e : Edge). e.label) (kept_2 c).edges)
-unfolding kept
+unfolding kept_2
 edge_count c = sym (length_span _ (labels_of c.args.z) c.args.z.nodes c.args.z.edges) ∙ ap length (edge_labels_kept c.requires.stored.0 (goes_2 c))
 
 -- the labels of the nodes, and of all
 nodes_left_2 : (c : After-copy_numbers-arg-1) → remaining (marked c.args.room.now c.args.z.nodes) 0 (span c.args.src.now (labels_of c.args.z) 0 c.args.z.nodes) ≡ (kept_2 c).labels
-unfolding kept
+unfolding kept_2
 nodes_left_2 c = λ i. remaining (c.requires.stored.4 i) 0 ((stored_rows c.requires.stored.0).labels i)
 
 node_labels_lem : (c : After-copy_numbers-arg-1) → Put (headed c.args.out.now c.args.y) (labels_of c.args.y) 0 (kept_2 c).labels c.put_left_labels-nodes.new.out c.put_left_labels-nodes.result
@@ -74,19 +74,19 @@ kept_3 : After-put_moved_edges-arg-1 → Graph
 kept_3 c = without_nodes (goes_3 c) (graph_of c.args.src.now)
 
 body_there : (c : After-put_moved_edges-arg-1) → Holds c.args.out.now (body_of c.args.y) (length (joined edge_row (kept_3 c).edges) + length ((kept_3 c).sources ++ ((kept_3 c).targets ++ flat (kept_3 c).pairs)))
-unfolding kept
+unfolding kept_3
 body_there c = body_room c.requires.stored.2 (fitting (kept_3 c)) (kept_3 c) c.requires.y_value
 
 -- the labels of the nodes, and of all
 nodes_left_3 : (c : After-put_moved_edges-arg-1) → remaining (marked c.args.room.now c.args.z.nodes) 0 (span c.args.src.now (labels_of c.args.z) 0 c.args.z.nodes) ≡ (kept_3 c).labels
-unfolding kept
+unfolding kept_3
 nodes_left_3 c = λ i. remaining (c.requires.stored.4 i) 0 ((stored_rows c.requires.stored.0).labels i)
 
 node_labels_lem_2 : (c : After-put_moved_edges-arg-1) → Put (headed c.args.out.now c.args.y) (labels_of c.args.y) 0 (kept_3 c).labels c.put_left_labels-nodes.new.out c.put_left_labels-nodes.result
 node_labels_lem_2 c = coe 0 1 (i. Put (c.put_header.ensures i) (labels_of c.args.y) 0 (nodes_left_3 c i) c.put_left_labels-nodes.new.out c.put_left_labels-nodes.result) c.put_left_labels-nodes.ensures
 
 all_labels : (c : After-put_moved_edges-arg-1) → Put (headed c.args.out.now c.args.y) (labels_of c.args.y) 0 (label_row (kept_3 c)) c.copy_numbers.new.d (c.put_left_labels-nodes.result + c.args.z.edges)
-unfolding kept
+unfolding kept_3
 all_labels c = put_then (node_labels_lem_2 c) (copied c.args.src.now c.args.z.nodes c.args.z.edges c.copy_numbers.ensures c.label_row-new_labels.ensures c.label_row-labels.ensures (edge_labels_kept c.requires.stored.0 (goes_3 c)) refl)
 
 labels_long : (c : After-put_moved_edges-arg-1) → length c.copy_numbers.new.d ≡ length c.args.out.now
@@ -100,25 +100,25 @@ kept_4 : After-put_moved_ids-arg-1 → Graph
 kept_4 c = without_nodes (goes_4 c) (graph_of c.args.src.now)
 
 body_there_2 : (c : After-put_moved_ids-arg-1) → Holds c.args.out.now (body_of c.args.y) (length (joined edge_row (kept_4 c).edges) + length ((kept_4 c).sources ++ ((kept_4 c).targets ++ flat (kept_4 c).pairs)))
-unfolding kept
+unfolding kept_4
 body_there_2 c = body_room c.requires.stored.2 (fitting (kept_4 c)) (kept_4 c) c.requires.y_value
 
 ids_long : (c : After-put_moved_ids-arg-1) → length ((kept_4 c).sources ++ ((kept_4 c).targets ++ flat (kept_4 c).pairs))
     ≡ length (renamed (goes_4 c) (span c.args.src.now (body_of c.args.z) (lists_from c.args.z) (c.args.z.sources + c.args.z.targets))) + length (flat (kept_4 c).pairs)
-unfolding kept
+unfolding kept_4
 ids_long c = ap length (sym (append_assoc (kept_4 c).sources (kept_4 c).targets (flat (kept_4 c).pairs))) ∙ length-append ((kept_4 c).sources ++ (kept_4 c).targets) (flat (kept_4 c).pairs)
     ∙ ap (λ (l : List ℕ). length l + length (flat (kept_4 c).pairs)) (sym (ids_moved c.requires.stored.0 (goes_4 c)))
 
 -- the labels of the nodes, and of all
 nodes_left_4 : (c : After-put_moved_ids-arg-1) → remaining (marked c.args.room.now c.args.z.nodes) 0 (span c.args.src.now (labels_of c.args.z) 0 c.args.z.nodes) ≡ (kept_4 c).labels
-unfolding kept
+unfolding kept_4
 nodes_left_4 c = λ i. remaining (c.requires.stored.4 i) 0 ((stored_rows c.requires.stored.0).labels i)
 
 node_labels_lem_3 : (c : After-put_moved_ids-arg-1) → Put (headed c.args.out.now c.args.y) (labels_of c.args.y) 0 (kept_4 c).labels c.put_left_labels-nodes.new.out c.put_left_labels-nodes.result
 node_labels_lem_3 c = coe 0 1 (i. Put (c.put_header.ensures i) (labels_of c.args.y) 0 (nodes_left_4 c i) c.put_left_labels-nodes.new.out c.put_left_labels-nodes.result) c.put_left_labels-nodes.ensures
 
 all_labels_2 : (c : After-put_moved_ids-arg-1) → Put (headed c.args.out.now c.args.y) (labels_of c.args.y) 0 (label_row (kept_4 c)) c.copy_numbers.new.d (c.put_left_labels-nodes.result + c.args.z.edges)
-unfolding kept
+unfolding kept_4
 all_labels_2 c = put_then (node_labels_lem_3 c) (copied c.args.src.now c.args.z.nodes c.args.z.edges c.copy_numbers.ensures c.label_row-new_labels.ensures c.label_row-labels.ensures (edge_labels_kept c.requires.stored.0 (goes_4 c)) refl)
 
 labels_long_2 : (c : After-put_moved_ids-arg-1) → length c.copy_numbers.new.d ≡ length c.args.out.now
@@ -132,25 +132,25 @@ kept_5 : After-put_moved_pairs-arg-1 → Graph
 kept_5 c = without_nodes (goes_5 c) (graph_of c.args.src.now)
 
 body_there_3 : (c : After-put_moved_pairs-arg-1) → Holds c.args.out.now (body_of c.args.y) (length (joined edge_row (kept_5 c).edges) + length ((kept_5 c).sources ++ ((kept_5 c).targets ++ flat (kept_5 c).pairs)))
-unfolding kept
+unfolding kept_5
 body_there_3 c = body_room c.requires.stored.2 (fitting (kept_5 c)) (kept_5 c) c.requires.y_value
 
 ids_long_2 : (c : After-put_moved_pairs-arg-1) → length ((kept_5 c).sources ++ ((kept_5 c).targets ++ flat (kept_5 c).pairs))
     ≡ length (renamed (goes_5 c) (span c.args.src.now (body_of c.args.z) (lists_from c.args.z) (c.args.z.sources + c.args.z.targets))) + length (flat (kept_5 c).pairs)
-unfolding kept
+unfolding kept_5
 ids_long_2 c = ap length (sym (append_assoc (kept_5 c).sources (kept_5 c).targets (flat (kept_5 c).pairs))) ∙ length-append ((kept_5 c).sources ++ (kept_5 c).targets) (flat (kept_5 c).pairs)
     ∙ ap (λ (l : List ℕ). length l + length (flat (kept_5 c).pairs)) (sym (ids_moved c.requires.stored.0 (goes_5 c)))
 
 -- the labels of the nodes, and of all
 nodes_left_5 : (c : After-put_moved_pairs-arg-1) → remaining (marked c.args.room.now c.args.z.nodes) 0 (span c.args.src.now (labels_of c.args.z) 0 c.args.z.nodes) ≡ (kept_5 c).labels
-unfolding kept
+unfolding kept_5
 nodes_left_5 c = λ i. remaining (c.requires.stored.4 i) 0 ((stored_rows c.requires.stored.0).labels i)
 
 node_labels_lem_4 : (c : After-put_moved_pairs-arg-1) → Put (headed c.args.out.now c.args.y) (labels_of c.args.y) 0 (kept_5 c).labels c.put_left_labels-nodes.new.out c.put_left_labels-nodes.result
 node_labels_lem_4 c = coe 0 1 (i. Put (c.put_header.ensures i) (labels_of c.args.y) 0 (nodes_left_5 c i) c.put_left_labels-nodes.new.out c.put_left_labels-nodes.result) c.put_left_labels-nodes.ensures
 
 all_labels_3 : (c : After-put_moved_pairs-arg-1) → Put (headed c.args.out.now c.args.y) (labels_of c.args.y) 0 (label_row (kept_5 c)) c.copy_numbers.new.d (c.put_left_labels-nodes.result + c.args.z.edges)
-unfolding kept
+unfolding kept_5
 all_labels_3 c = put_then (node_labels_lem_4 c) (copied c.args.src.now c.args.z.nodes c.args.z.edges c.copy_numbers.ensures c.label_row-new_labels.ensures c.label_row-labels.ensures (edge_labels_kept c.requires.stored.0 (goes_5 c)) refl)
 
 labels_long_3 : (c : After-put_moved_pairs-arg-1) → length c.copy_numbers.new.d ≡ length c.args.out.now
@@ -165,19 +165,19 @@ kept_6 c = without_nodes (goes_6 c) (graph_of c.args.src.now)
 
 -- the labels of the nodes, and of all
 nodes_left_6 : (c : After-slice_known-7-1) → remaining (marked c.args.room.now c.args.z.nodes) 0 (span c.args.src.now (labels_of c.args.z) 0 c.args.z.nodes) ≡ (kept_6 c).labels
-unfolding kept
+unfolding kept_6
 nodes_left_6 c = λ i. remaining (c.requires.stored.4 i) 0 ((stored_rows c.requires.stored.0).labels i)
 
 node_labels_lem_5 : (c : After-slice_known-7-1) → Put (headed c.args.out.now c.args.y) (labels_of c.args.y) 0 (kept_6 c).labels c.put_left_labels-nodes.new.out c.put_left_labels-nodes.result
 node_labels_lem_5 c = coe 0 1 (i. Put (c.put_header.ensures i) (labels_of c.args.y) 0 (nodes_left_6 c i) c.put_left_labels-nodes.new.out c.put_left_labels-nodes.result) c.put_left_labels-nodes.ensures
 
 all_labels_4 : (c : After-slice_known-7-1) → Put (headed c.args.out.now c.args.y) (labels_of c.args.y) 0 (label_row (kept_6 c)) c.copy_numbers.new.d (c.put_left_labels-nodes.result + c.args.z.edges)
-unfolding kept
+unfolding kept_6
 all_labels_4 c = put_then (node_labels_lem_5 c) (copied c.args.src.now c.args.z.nodes c.args.z.edges c.copy_numbers.ensures c.label_row-new_labels.ensures c.label_row-labels.ensures (edge_labels_kept c.requires.stored.0 (goes_6 c)) refl)
 
 -- all counts and ids
 written : (c : After-slice_known-7-1) → Put c.copy_numbers.new.d c.body_row-new_body.result 0 (body (kept_6 c)) c.put_moved_pairs.new.out c.put_moved_pairs.result
-unfolding kept
+unfolding kept_6
 written c = let g = kept_6 c in
     let e = (λ i. ids_moved c.requires.stored.0 (goes_6 c) i ++ flat (pairs_moved c.requires.stored.0 (goes_6 c) (pairs_there c.requires.stored.0 (goes_6 c)) i)) ∙ append_assoc g.sources g.targets (flat g.pairs) in
     put_then c.put_moved_edges-sources.ensures
@@ -223,7 +223,7 @@ pub overflow_add-ids : goal.overflow_add-ids
 overflow_add-ids c = let low = (stored_rows c.requires.stored.0).low in omega arith
 
 pub put_moved_edges-sources-requires : goal.put_moved_edges-sources-requires
-unfolding kept
+unfolding kept_3
 put_moved_edges-sources-requires c = (
   c.requires.stored.0,
   c.requires.stored.1,
@@ -231,7 +231,7 @@ put_moved_edges-sources-requires c = (
 )
 
 pub put_moved_ids-pairs-requires : goal.put_moved_ids-pairs-requires
-unfolding kept
+unfolding kept_4
 put_moved_ids-pairs-requires c =
     let rows = stored_rows c.requires.stored.0 in
     let known = stored_known c.requires.stored.0 in
@@ -247,7 +247,7 @@ pub overflow_add-lists-2 : goal.overflow_add-lists-2
 overflow_add-lists-2 c = let low = (stored_rows c.requires.stored.0).low in omega arith
 
 pub put_moved_pairs-requires : goal.put_moved_pairs-requires
-unfolding kept
+unfolding kept_5
 put_moved_pairs-requires c =
     let rows = stored_rows c.requires.stored.0 in
     let p = c.put_moved_edges-sources.ensures in
@@ -262,7 +262,7 @@ put_moved_pairs-requires c =
     )
 
 pub returns : goal.returns
-unfolding kept
+unfolding kept_6
 returns c =
     let a = c.args in
     drawn_by a.out.now a.y c.body_row-new_body.ensures (all_labels_4 c) (written c)

@@ -44,7 +44,7 @@ body_row-row-requires c = (stored_rows c.requires.0).low
 pub loop-i-init : goal.loop-i-init
 loop-i-init c =
     let d = c.clear in
-    (omega arith, refl, refl, begun c.requires.0 d.new.0 (marked_cleared c.args.room.now d.new.0 c.args.z.nodes c.requires.1 d.ensures))
+    (omega arith, refl, refl, begun c.requires.0 d.new.d (marked_cleared c.args.room.now d.new.d c.args.z.nodes c.requires.1 d.ensures))
 
 pub edge_at-e-requires : goal.edge_at-e-requires
 edge_at-e-requires c =
@@ -61,17 +61,17 @@ mark_edge-requires c =
 pub returns-then-not-mark_edge : goal.returns-then-not-mark_edge
 returns-then-not-mark_edge c =
     let f = c.mark_edge in
-    let new = f.new.1.1.1.1.1.1.0 in
+    let new = f.new.room in
     (fitting_2 c).stop new f.result (not-true _ c.if-not-mark_edge.true-raw) f.ensures
 
 pub loop-i-preserved : goal.loop-i-preserved
 loop-i-preserved c =
     let l = c.loop-i in
     let f = c.mark_edge in
-    let new = f.new.1.1.1.1.1.1.0 in (
+    let new = f.new.room in (
       omega arith,
       l.invariant.1,
-      f.auto.1.1.1.1.1.1.0 ∙ l.invariant.2,
+      f.auto.room ∙ l.invariant.2,
       (fitting_3 c).turn new f.result (not-false _ c.if-not-mark_edge.false-raw) f.ensures,
     )
 

@@ -68,7 +68,7 @@ returns-then-not-mark c =
     let f = c.mark in
     let x = c.number-id in
     list_stop a.room.now a.nodes a.way a.src.now a.r a.k a.n l.i (omega arith) l.room l.invariant.2 x.result x.ensures.0 (known c) (omega arith)
-    c.requires.3 f.result f.ensures.0 f.new.0 f.ensures.1 (not-true _ c.if-not-mark.true-raw)
+    c.requires.3 f.result f.ensures.value f.new.room f.ensures.room_after (not-true _ c.if-not-mark.true-raw)
 
 pub loop-i-preserved : goal.loop-i-preserved
 loop-i-preserved c =
@@ -77,9 +77,9 @@ loop-i-preserved c =
     let f = c.mark in
     let x = c.number-id in (
       omega arith,
-      f.auto.0 ∙ l.invariant.1,
+      f.auto.room ∙ l.invariant.1,
       list_turn a.room.now a.nodes a.way a.src.now a.r a.k a.n l.i (omega arith) l.room l.invariant.2 x.result x.ensures.0 (known_2 c) (omega arith)
-          c.requires.3 f.result f.ensures.0 f.new.0 f.ensures.1 (not-false _ c.if-not-mark.false-raw),
+          c.requires.3 f.result f.ensures.value f.new.room f.ensures.room_after (not-false _ c.if-not-mark.false-raw),
     )
 
 pub mark-requires : goal.mark-requires

@@ -29,13 +29,13 @@ targets_marked c = let r = c.body_row-row in rw (targets_there c.requires.0 r.re
 pub returns-then-not-mark_list : goal.returns-then-not-mark_list
 returns-then-not-mark_list c =
     let f = c.mark_list in
-    let new = f.new.1.1.1.1.1.0 in
+    let new = f.new.room in
     first_stop _ new new _ 2 (inr refl) _ _ f.result (sources_marked c) (not-true _ c.if-not-mark_list.true-raw)
 
 pub returns : goal.returns
 returns c =
     let f = c.mark_list in
-    second_next _ f.new.1.1.1.1.1.0 _ _ 2 (inr refl) _ _ f.result (sources_marked_2 c) (not-false _ c.if-not-mark_list.false-raw) c.mark_list-2.result (targets_marked c)
+    second_next _ f.new.room _ _ 2 (inr refl) _ _ f.result (sources_marked_2 c) (not-false _ c.if-not-mark_list.false-raw) c.mark_list-2.result (targets_marked c)
 
 pub body_row-row-requires : goal.body_row-row-requires
 body_row-row-requires c = (stored_rows c.requires.0).low

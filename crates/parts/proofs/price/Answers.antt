@@ -64,4 +64,4 @@ returns c =
     let a = c.args in
     let p = found_3 c in
     let b = c.put_bill in
-    call_done a.src.now a.out.now b.new.0 (length a.room.now) p.0 p.1 (omega arith) _ p.2 b.ensures
+    call_done a.src.now a.out.now b.new.out (length a.room.now) p.0 p.1 (omega arith) _ p.2 b.ensures

@@ -13,5 +13,5 @@ returns c =
     let a = c.args in
     let first = c.put4 in
     let second = c.put4-2 in
-    put_twice a.d.now first.new.0 second.new.0 (bytes 4 (a.v % 4294967296)) (bytes 4 (a.v / 4294967296)) a.at 4 refl first.ensures second.ensures
+    put_twice a.d.now first.new.d second.new.d (bytes 4 (a.v % 4294967296)) (bytes 4 (a.v / 4294967296)) a.at 4 refl first.ensures second.ensures
     ∙ ap (sets a.d.now a.at) (bytes_8 a.v)

@@ -13,4 +13,4 @@ returns c =
     let third = c.put8 in
     let second = c.put4 in
     let first = c.put_row in
-    all_put c.args.out.now first.new.0 second.new.0 third.new.0 c.args.bill.counts c.args.bill.buffers c.args.bill.total c.requires.1.twelve first.ensures second.ensures third.ensures
+    all_put c.args.out.now first.new.out second.new.d third.new.d c.args.bill.counts c.args.bill.buffers c.args.bill.total c.requires.1.twelve first.ensures second.ensures third.ensures

@@ -26,8 +26,8 @@ loop-k-preserved c =
     let p = c.put_number in (
       omega arith,
       l.invariant.1,
-      p.auto.0 ∙ l.invariant.2,
-      row_next a.at a.out.now l.out p.new.0 a.ns.now l.k (omega arith) l.invariant.3 p.ensures,
+      p.auto.d ∙ l.invariant.2,
+      row_next a.at a.out.now l.out p.new.d a.ns.now l.k (omega arith) l.invariant.3 p.ensures,
     )
 
 pub returns : goal.returns

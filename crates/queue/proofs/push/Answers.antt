@@ -19,4 +19,4 @@ returns c =
     let w = c.put_key in
     let W = words a.room.now in
     let fits : a.base + 2 * (a.n + 1) ≤ length W = omega (arith, length_words a.room.now) in
-    subst (λ (X : List ℕ). Added W X a.base a.n a.k) (sym w.ensures) (rises_put W a.base a.n a.k fits (words o.new.0) o.result o.ensures)
+    subst (λ (X : List ℕ). Added W X a.base a.n a.k) (sym w.ensures) (rises_put W a.base a.n a.k fits (words o.new.room) o.result o.ensures)

@@ -67,10 +67,10 @@ loop-gap-preserved c =
     let w = c.put_key in
     let W = words a.room.now in
     let X = words l.room in
-    let is : words w.new.0 ≡ placed X a.base l.gap (key_at X a.base o.result.index) = w.ensures ∙ ap (placed X a.base l.gap) o.ensures.1 in (
+    let is : words w.new.room ≡ placed X a.base l.gap (key_at X a.base o.result.index) = w.ensures ∙ ap (placed X a.base l.gap) o.ensures.1 in (
       subst (λ (Y : List ℕ). SinkingIn W Y a.base a.n a.k o.result.index) (sym is)
           (sinking_turn W a.base a.n a.k (fits_5 c) X l.gap l.invariant.0 o.result.index o.ensures.0 (omega (arith, o.ensures.1))),
-      w.auto.0 ∙ l.invariant.1,
+      w.auto.room ∙ l.invariant.1,
     )
 
 pub returns : goal.returns

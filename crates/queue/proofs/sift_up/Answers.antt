@@ -49,10 +49,10 @@ loop-gap-preserved c =
     let w = c.put_key in
     let W = words a.room.now in
     let X = words l.room in
-    let is : words w.new.0 ≡ placed X a.base l.gap (key_at X a.base ((l.gap - 1) / 2)) = w.ensures ∙ ap (placed X a.base l.gap) k.ensures in (
+    let is : words w.new.room ≡ placed X a.base l.gap (key_at X a.base ((l.gap - 1) / 2)) = w.ensures ∙ ap (placed X a.base l.gap) k.ensures in (
       subst (λ (Y : List ℕ). RisingIn W Y a.base a.n a.k ((l.gap - 1) / 2)) (sym is)
           (rising_turn W a.base a.n a.k (fits_3 c) X l.gap l.invariant.0 (omega arith) (omega (arith, k.ensures))),
-      w.auto.0 ∙ l.invariant.1,
+      w.auto.room ∙ l.invariant.1,
     )
 
 pub returns : goal.returns

@@ -25,4 +25,4 @@ returns c =
     let w = c.put_key in
     let W = words a.room.now in
     let fits : a.base + 2 * a.n ≤ length W = omega (arith, length_words a.room.now) in
-    subst (λ (X : List ℕ). Replaced W X a.base a.n a.k) (sym w.ensures) (sinks_put W a.base a.n a.k fits (words o.new.0) o.result o.ensures)
+    subst (λ (X : List ℕ). Replaced W X a.base a.n a.k) (sym w.ensures) (sinks_put W a.base a.n a.k fits (words o.new.room) o.result o.ensures)

@@ -58,7 +58,7 @@ loop-i-preserved c =
     let read : c.word-class.result ≡ get_or W (entry a.src.now c.body_row-body.result (a.k + l.i)) 0 = c.word-class.ensures ∙ ap (λ (id : ℕ). get_or W id 0) c.number-id.ensures.0 in
     let end : a.k + l.i + 1 ≡ a.k + (l.i + 1) = omega arith in (
       omega arith,
-      subst (λ (e : ℕ). Put a.out.now a.to a.k (looked W (span a.src.now c.body_row-body.result a.k (l.i + 1))) p.new.0 e) end
+      subst (λ (e : ℕ). Put a.out.now a.to a.k (looked W (span a.src.now c.body_row-body.result a.k (l.i + 1))) p.new.d e) end
           (put_more (looked_grow W a.src.now _ a.k a.n) (omega arith) l.invariant.1
           (record { stored = p.ensures ∙ ap (λ (v : ℕ). puts l.out a.to (a.k + l.i) (v ∷ [])) read; next = refl })),
     )

@@ -61,7 +61,7 @@ unfolding read
 returns-in_default c =
     let x = c.enum_told-1.given in
     let r = c.read_version-version in
-    ap Refused (c.refusal.ensures ∙ ap refusal_in x.1) ∙ sym (ap reading (stops _ (number_refused _ r.result r.ensures x.0.0 x.1)))
+    ap Refused (c.refusal.ensures ∙ ap refusal_in c.in_default.is) ∙ sym (ap reading (stops _ (number_refused _ r.result r.ensures c.in_default.field-0 c.in_default.is)))
 
 pub read_fitting-requires : goal.read_fitting-requires
 read_fitting-requires c =
@@ -77,4 +77,4 @@ pub returns-in-Refused : goal.returns-in-Refused
 unfolding read
 returns-in-Refused c =
     let x = c.x-1.given in
-    sym (ap reading (goes _ (numbered_so_3 c) ∙ stops _ (version_refused _ x.0.0 (sym x.1 ∙ c.format_numbered.ensures))))
+    sym (ap reading (goes _ (numbered_so_3 c) ∙ stops _ (version_refused _ c.in-Refused.x (sym c.in-Refused.is ∙ c.format_numbered.ensures))))

@@ -35,7 +35,7 @@ unfolding read_as
 returns-in_default c =
     let x = c.enum_told-1.given in
     let r = c.read_version-version in
-    ap Refused (c.refusal.ensures ∙ ap refusal_in x.1) ∙ sym (ap (measured _) (stops _ (number_refused _ r.result r.ensures x.0.0 x.1)))
+    ap Refused (c.refusal.ensures ∙ ap refusal_in c.in_default.is) ∙ sym (ap (measured _) (stops _ (number_refused _ r.result r.ensures c.in_default.field-0 c.in_default.is)))
 
 pub returns-then-v-f : goal.returns-then-v-f
 returns-then-v-f c =

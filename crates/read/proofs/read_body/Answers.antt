@@ -79,25 +79,25 @@ pub read_lists-requires : goal.read_lists-requires
 read_lists-requires c =
     let a = c.args in
     let x = c.ports-1.given in
-    let w = went (meant a.f) a.s.now a.z (omega arith) c.requires.0 c.read_edges.result (after_labels c) x.0.0 x.0.1.0 x.0.1.1.0 x.1 in (
+    let w = went (meant a.f) a.s.now a.z (omega arith) c.requires.0 c.read_edges.result (after_labels c) c.in-Next.ports c.in-Next.at c.in-Next.bound c.in-Next.is in (
       w.inside,
       c.requires.1,
       c.requires.2,
-      subst (λ (n : ℕ). Spans a.f.width a.s.now c.labels_end-start.result n x.0.1.0) w.is_edges
-          (stand_spans a.f.width a.s.now x.0.1.0 c.labels_end-start.result w.edges (from_labels c w.edges x.0.1.0 w.stand)),
+      subst (λ (n : ℕ). Spans a.f.width a.s.now c.labels_end-start.result n c.in-Next.at) w.is_edges
+          (stand_spans a.f.width a.s.now c.in-Next.at c.labels_end-start.result w.edges (from_labels c w.edges c.in-Next.at w.stand)),
     )
 
 pub returns-in-Next : goal.returns-in-Next
 returns-in-Next c =
     let a = c.args in
     let x = c.ports-1.given in
-    let w = went (meant a.f) a.s.now a.z (omega arith) c.requires.0 c.read_edges.result (after_labels_2 c) x.0.0 x.0.1.0 x.0.1.1.0 x.1 in
-    c.read_lists.ensures (drop (header_bytes (meant a.f)) a.s.now) w.edges w.is_edges w.is_ports w.is_bound c.labels_end-start.ensures (from_labels_2 c w.edges x.0.1.0 w.stand) ∙ sym (ap (measured a.f.width) w.onward)
+    let w = went (meant a.f) a.s.now a.z (omega arith) c.requires.0 c.read_edges.result (after_labels_2 c) c.in-Next.ports c.in-Next.at c.in-Next.bound c.in-Next.is in
+    c.read_lists.ensures (drop (header_bytes (meant a.f)) a.s.now) w.edges w.is_edges w.is_ports w.is_bound c.labels_end-start.ensures (from_labels_2 c w.edges c.in-Next.at w.stand) ∙ sym (ap (measured a.f.width) w.onward)
 
 pub count_over-requires : goal.count_over-requires
 count_over-requires c =
     let y = c.at-1.given in
-    let there = subst (CountsThere c.args.f.width c.args.s.now) y.1 c.read_edges.ensures.0 in
+    let there = subst (CountsThere c.args.f.width c.args.s.now) c.in-Over.is c.read_edges.ensures.0 in
     (record { wide = c.requires.2.width; inside = there }, (small c.requires.2).ports)
 
 pub returns-in-Over : goal.returns-in-Over
@@ -105,10 +105,10 @@ returns-in-Over c =
     let a = c.args in
     let y = c.at-1.given in
     ap (λ (p : ℕ). Refused (record { no = 4; place = p })) c.count_over.ensures
-    ∙ edge_refused (meant a.f) a.s.now a.z (omega arith) c.requires.0 c.read_edges.result (after_labels_3 c) _ (ap (settled (meant a.f) a.s.now) y.1)
+    ∙ edge_refused (meant a.f) a.s.now a.z (omega arith) c.requires.0 c.read_edges.result (after_labels_3 c) _ (ap (settled (meant a.f) a.s.now) c.in-Over.is)
 
 pub returns-in-Refused : goal.returns-in-Refused
 returns-in-Refused c =
     let a = c.args in
     let x = c.x-1.given in
-    edge_refused (meant a.f) a.s.now a.z (omega arith) c.requires.0 c.read_edges.result (after_labels_4 c) x.0.0 (ap (settled (meant a.f) a.s.now) x.1)
+    edge_refused (meant a.f) a.s.now a.z (omega arith) c.requires.0 c.read_edges.result (after_labels_4 c) c.in-Refused.x (ap (settled (meant a.f) a.s.now) c.in-Refused.is)

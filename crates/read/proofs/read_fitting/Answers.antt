@@ -54,7 +54,7 @@ pub returns-in_default : goal.returns-in_default
 unfolding read_fitting
 returns-in_default c =
     let x = c.enum_told-1.given in
-    x.1 ∙ sym (ap (measured c.args.f.width) (stops _ (graph_refused _ _ x.0.0 (sym x.1 ∙ c.read_in-graph.ensures))))
+    c.in_default.is ∙ sym (ap (measured c.args.f.width) (stops _ (graph_refused _ _ c.in_default.field-0 (sym c.in_default.is ∙ c.read_in-graph.ensures))))
 
 pub returns-then-f-eq1 : goal.returns-then-f-eq1
 returns-then-f-eq1 c =

@@ -36,7 +36,7 @@ pub returns-in_default : goal.returns-in_default
 unfolding read_in
 returns-in_default c =
     let x = c.enum_told-1.given in
-    x.1 ∙ sym (ap (measured c.args.f.width) (stops _ (head_refused _ _ x.0.0 (sym x.1 ∙ c.read_counts-head.ensures))))
+    c.in_default.is ∙ sym (ap (measured c.args.f.width) (stops _ (head_refused _ _ c.in_default.field-0 (sym c.in_default.is ∙ c.read_counts-head.ensures))))
 
 pub read_body-requires : goal.read_body-requires
 read_body-requires c =

@@ -42,7 +42,7 @@ pub overflow_add-at : goal.overflow_add-at
 overflow_add-at c = let l = few_2 c in omega arith
 
 pub returns-then-s-at : goal.returns-then-s-at
-returns-then-s-at c =
+returns-then-s-at c body edges e p q start at =
     let a = c.args in
     other_length (meant a.f) a.s.now a.at a.z a.ports a.bound body edges e p q (λ h. c.if-s-at.true h) (omega arith) c.lower.result c.lower.ensures
 
@@ -51,7 +51,7 @@ bad_place-requires c =
     (record { wide = c.requires.2.width; inside = omega arith }, c.requires.3)
 
 pub returns-then-z-reach_of : goal.returns-then-z-reach_of
-returns-then-z-reach_of c =
+returns-then-z-reach_of c body edges e p q start at =
     let a = c.args in
     let n = a.z.sources + (a.z.targets + 2 * a.z.pairs) in
     foreign_id (meant a.f) a.s.now a.at a.z a.ports a.bound body edges e p q c.if-s-at.false c.reach_of.result c.reach_of.ensures
@@ -59,6 +59,6 @@ returns-then-z-reach_of c =
     (c.bad_place.ensures ∙ ap (λ (k : ℕ). bad_place a.f.width a.z.nodes a.s.now k a.z.edges n) start)
 
 pub returns : goal.returns
-returns c =
+returns c body edges e p q start at =
     let a = c.args in
     all_read (meant a.f) a.s.now a.at a.z a.ports a.bound body edges e p q c.if-s-at.false c.reach_of.result c.reach_of.ensures (omega arith)

@@ -59,8 +59,8 @@ walk-requires c =
     let W = words a.room.now in
     let Z = words c.set_word-2.new.room in
     let t = c.walk-mid in
-    let M = words t.new.1.0 in record {
-      nodes_in_bounds = (omega (arith, c.put_chosen.auto.out, t.auto.0), omega arith, omega arith, omega arith, omega arith, t.ensures.0.went.few, omega (arith, c.set_word-2.auto.room, c.set_word.auto.room, t.auto.1.0));
+    let M = words t.new.room in record {
+      nodes_in_bounds = (omega (arith, c.put_chosen.auto.out, t.auto.out), omega arith, omega arith, omega arith, omega arith, t.ensures.0.went.few, omega (arith, c.set_word-2.auto.room, c.set_word.auto.room, t.auto.room));
       roomy = (
         one_roomy q W a.nodes a.n a.best a.end (omega arith) (omega arith) (omega arith) (omega arith) (long_2 c) c.requires.roomy.0 c.requires.roomy.1 Z (zero_is_2 c) M t.result t.ensures.0,
         one_lists q W a.nodes a.n a.best a.end (omega arith) (omega arith) (omega arith) (omega arith) (long_2 c) c.requires.roomy.0 c.requires.roomy.1 Z (zero_is_2 c) M t.result t.ensures.0,
@@ -75,8 +75,8 @@ returns c =
     let Z = words c.set_word-2.new.room in
     let t = c.walk-mid in
     let u = c.walk in
-    let M = words t.new.1.0 in
-    let X = words u.new.1.0 in
+    let M = words t.new.room in
+    let X = words u.new.room in
     record {
       middle = M;
       mid = t.result;

@@ -54,7 +54,7 @@ top : (c : After-choose-arg-in-loop-last-1) → let a = c.args in
 top c = let a = c.args in
     let l = c.loop-last in
     let x = c.next_candidate-best in
-    running_next (source a.src.now (body_of a.z)) (graph_of a.src.now) a.out.now a.z.nodes (a.z.nodes + a.z.edges) a.m (drawn c.requires.nodes_in_bounds.3) (words l.room) l.out l.last l.ids (within_3 c).0 l.invariant.0 (omega arith) (words x.new.0) x.result x.ensures
+    running_next (source a.src.now (body_of a.z)) (graph_of a.src.now) a.out.now a.z.nodes (a.z.nodes + a.z.edges) a.m (drawn c.requires.nodes_in_bounds.3) (words l.room) l.out l.last l.ids (within_3 c).0 l.invariant.0 (omega arith) (words x.new.room) x.result x.ensures
 
 -- at each test: no more has gone than there is
 within_4 : (c : After-slice_known-in-loop-last-3-1) → let a = c.args in
@@ -75,9 +75,9 @@ turned c = let a = c.args in
     let g = graph_of a.src.now in
     let l = c.loop-last in
     let x = c.next_candidate-best in
-    let M = words x.new.0 in
+    let M = words x.new.room in
     let e = c.choose-last in
-    let X = words e.new.1.0 in
+    let X = words e.new.room in
     let f = c.loop-last-test.true in
     let long = (within_4 c).0 in
     let best = running_best q g a.out.now a.z.nodes n a.m d (words l.room) l.out l.last l.ids long l.invariant.0 (omega arith) M x.result x.ensures f in
@@ -85,10 +85,10 @@ turned c = let a = c.args in
     let r = running_next q g a.out.now a.z.nodes n a.m d (words l.room) l.out l.last l.ids long l.invariant.0 (omega arith) M x.result x.ensures in
     let after : queue_at + 2 * a.m ≤ length M = omega (arith, x.ensures.frame.long, long) in
     let room : 16 * a.z.nodes ≤ length l.out = omega (arith, l.invariant.0.frame.long) in
-    let h = subst (λ (w : Row). Chose (source a.src.now w) M X l.out e.new.0 a.z.nodes n x.result l.last (l.ids + 1) e.result) c.body_row-r.ensures e.ensures in (
-      running_later q g a.out.now a.z.nodes n a.m d M l.out l.last l.ids after r x.result best low room X e.new.0 e.result h,
-      running_fits q g a.out.now a.z.nodes n a.m d M l.out l.last l.ids after r x.result best low room X e.new.0 e.result h,
-      running_turn q g a.out.now a.z.nodes n a.m d M l.out l.last l.ids after r x.result best low room X e.new.0 e.result h,
+    let h = subst (λ (w : Row). Chose (source a.src.now w) M X l.out e.new.out a.z.nodes n x.result l.last (l.ids + 1) e.result) c.body_row-r.ensures e.ensures in (
+      running_later q g a.out.now a.z.nodes n a.m d M l.out l.last l.ids after r x.result best low room X e.new.out e.result h,
+      running_fits q g a.out.now a.z.nodes n a.m d M l.out l.last l.ids after r x.result best low room X e.new.out e.result h,
+      running_turn q g a.out.now a.z.nodes n a.m d M l.out l.last l.ids after r x.result best low room X e.new.out e.result h,
     )
 
 -- at each test: no more has gone than there is
@@ -130,8 +130,8 @@ choose-last-requires c =
     let g = graph_of a.src.now in
     let l = c.loop-last in
     let x = c.next_candidate-best in
-    let low = best_low q g a.out.now a.z.nodes n a.m d (words l.room) l.out l.last l.ids (within_3 c).0 l.invariant.0 (omega arith) (words x.new.0) x.result x.ensures c.loop-last-test.true in
-    let t = (top c).explaining in record { nodes_in_bounds = (omega (arith, l.invariant.0.frame.long), omega (arith, (within_3 c).1, d.few), low, d.few, omega arith, t.few, omega (arith, x.auto.0, l.invariant.1)); roomy = (t.roomy, subst (λ (r : Row). Lists (source a.src.now r) (words x.new.0) a.z.nodes n) (sym c.body_row-r.ensures) t.tabled.lists) }
+    let low = best_low q g a.out.now a.z.nodes n a.m d (words l.room) l.out l.last l.ids (within_3 c).0 l.invariant.0 (omega arith) (words x.new.room) x.result x.ensures c.loop-last-test.true in
+    let t = (top c).explaining in record { nodes_in_bounds = (omega (arith, l.invariant.0.frame.long), omega (arith, (within_3 c).1, d.few), low, d.few, omega arith, t.few, omega (arith, x.auto.room, l.invariant.1)); roomy = (t.roomy, subst (λ (r : Row). Lists (source a.src.now r) (words x.new.room) a.z.nodes n) (sym c.body_row-r.ensures) t.tabled.lists) }
 
 pub loop-last-smaller : goal.loop-last-smaller
 loop-last-smaller c =

@@ -40,13 +40,13 @@ settle-requires c =
     let o = c.build in
     let p = c.raise_ends in
     let e = c.seed_all-seeds in
-    let W = words o.new.0 in
-    let X = words e.new.0 in
-    let long : picked_at ≤ length W = omega (arith, length_words o.new.0, o.auto.0) in record {
-      nodes_in_bounds = (omega arith, omega arith, omega arith, d.few, omega arith, e.ensures.few, omega (arith, o.auto.0, p.auto.0, e.auto.0));
+    let W = words o.new.room in
+    let X = words e.new.room in
+    let long : picked_at ≤ length W = omega (arith, length_words o.new.room, o.auto.room) in record {
+      nodes_in_bounds = (omega arith, omega arith, omega arith, d.few, omega arith, e.ensures.few, omega (arith, o.auto.room, p.auto.room, e.auto.room));
       roomy = (
-        seeded_roomy q g a.z.nodes n d W (words p.new.0) X X long o.ensures e.result p.ensures e.ensures,
-        subst (λ (r : Row). Lists (source a.src.now r) X a.z.nodes n) (sym c.body_row.ensures) (seeded_lists q g a.z.nodes n d W (words p.new.0) X X long o.ensures e.result p.ensures e.ensures),
+        seeded_roomy q g a.z.nodes n d W (words p.new.room) X X long o.ensures e.result p.ensures e.ensures,
+        subst (λ (r : Row). Lists (source a.src.now r) X a.z.nodes n) (sym c.body_row.ensures) (seeded_lists q g a.z.nodes n d W (words p.new.room) X X long o.ensures e.result p.ensures e.ensures),
       );
     }
 
@@ -61,11 +61,11 @@ returns c =
     let p = c.raise_ends in
     let e = c.seed_all-seeds in
     let t = c.settle in
-    let W = words o.new.0 in
-    let X = words e.new.0 in
-    let Y = words t.new.1.0 in
-    let long : picked_at ≤ length W = omega (arith, length_words o.new.0, o.auto.0) in (
-      begins q g a.z.nodes n d W (words p.new.0) X Y long o.ensures e.result p.ensures e.ensures t.result
+    let W = words o.new.room in
+    let X = words e.new.room in
+    let Y = words t.new.room in
+    let long : picked_at ≤ length W = omega (arith, length_words o.new.room, o.auto.room) in (
+      begins q g a.z.nodes n d W (words p.new.room) X Y long o.ensures e.result p.ensures e.ensures t.result
           (subst (λ (r : Row). Settled (source a.src.now r) X Y a.z.nodes n 0 t.result (halves_in X n e.result)) c.body_row.ensures t.ensures.0),
       t.ensures.1,
     )

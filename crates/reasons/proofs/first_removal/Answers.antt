@@ -26,7 +26,7 @@ overflow_add-n c = omega (arith, (drawn c.requires.stored).few)
 pub lower_ends-gone-requires : goal.lower_ends-gone-requires
 lower_ends-gone-requires c =
     let p = c.first_part-mid in
-    record { n_le_most_vertices = ((drawn c.requires.stored).few, p.ensures.0.few, omega (arith, p.auto.1.0)); roomy = p.ensures.0.roomy }
+    record { n_le_most_vertices = ((drawn c.requires.stored).few, p.ensures.0.few, omega (arith, p.auto.room)); roomy = p.ensures.0.roomy }
 
 pub body_row-requires : goal.body_row-requires
 body_row-requires c = (facts c.requires.stored).low
@@ -40,10 +40,10 @@ settle-requires c =
     let g = graph_of a.src.now in
     let p = c.first_part-mid in
     let o = c.lower_ends-gone in
-    let X = words p.new.1.0 in
-    let M = words o.new.0 in
-    let long : picked_at ≤ length X = omega (arith, length_words p.new.1.0, p.auto.1.0) in record {
-      nodes_in_bounds = (omega (arith, p.auto.0), omega arith, ends_later X M n p.result o.result d.few long p.ensures.0.few o.ensures, d.few, omega arith, o.ensures.few, omega (arith, p.auto.1.0, o.auto.0));
+    let X = words p.new.room in
+    let M = words o.new.room in
+    let long : picked_at ≤ length X = omega (arith, length_words p.new.room, p.auto.room) in record {
+      nodes_in_bounds = (omega (arith, p.auto.out), omega arith, ends_later X M n p.result o.result d.few long p.ensures.0.few o.ensures, d.few, omega arith, o.ensures.few, omega (arith, p.auto.room, o.auto.room));
       roomy = (
         lowered_roomy q g a.z.nodes n d X M M p.result p.ensures.0 long o.result o.ensures,
         subst (λ (r : Row). Lists (source a.src.now r) M a.z.nodes n) (sym c.body_row.ensures) (lowered_lists q g a.z.nodes n d X M M p.result p.ensures.0 long o.result o.ensures),
@@ -60,12 +60,12 @@ returns c =
     let p = c.first_part-mid in
     let o = c.lower_ends-gone in
     let t = c.settle in
-    let X = words p.new.1.0 in
-    let M = words o.new.0 in
-    let Y = words t.new.1.0 in
-    let long : picked_at ≤ length X = omega (arith, length_words p.new.1.0, p.auto.1.0) in
+    let X = words p.new.room in
+    let M = words o.new.room in
+    let Y = words t.new.room in
+    let long : picked_at ≤ length X = omega (arith, length_words p.new.room, p.auto.room) in
     let settled = subst (λ (r : Row). Settled (source a.src.now r) M Y a.z.nodes n p.result t.result (halves_in M n o.result)) c.body_row.ensures t.ensures.0 in
-    let is : t.new.0 ≡ freed_all a.z.nodes 2 1 (waited_from Y n p.result t.result) (freed_all a.z.nodes 1 1 (waited_from X n 0 p.result) a.out.now) =
+    let is : t.new.out ≡ freed_all a.z.nodes 2 1 (waited_from Y n p.result t.result) (freed_all a.z.nodes 1 1 (waited_from X n 0 p.result) a.out.now) =
     t.ensures.1 ∙ ap (freed_all a.z.nodes 2 1 (waited_from Y n p.result t.result)) p.ensures.1 in (
       subst (λ (o : List ℕ). Explaining q g Y o a.z.nodes n t.result 1) (sym is) (first_explained q g a.z.nodes n d X M Y p.result p.ensures.0 long o.result o.ensures t.result settled a.out.now (omega arith)),
       subst (Outside 0 (16 * a.z.nodes) a.out.now) (sym is) (first_outside q g a.z.nodes n d X M Y p.result p.ensures.0 long o.result o.ensures t.result settled a.out.now (omega arith)),

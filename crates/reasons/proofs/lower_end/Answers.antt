@@ -32,11 +32,11 @@ returns-then-word-ne0 c =
     record { few = omega arith; is = end_none W a.x (halves_in W a.n a.end) (λ e. c.if-word-ne0.true (count c ∙ e)); frame = steady_none W }
 
 pub lower-requires : goal.lower-requires
-lower-requires c = ((omega arith, omega arith, omega arith, omega arith), c.requires.roomy)
+lower-requires c = record { y_bound = (omega arith, omega arith, omega arith, omega arith); roomy = c.requires.roomy }
 
 pub returns : goal.returns
 returns c =
     let a = c.args in
     let W = words a.room.now in
     let o = c.lower in
-    subst (Went W (words o.new.0) a.n o.result) (end_one W a.x (halves_in W a.n a.end) (sym (count_2 c) ∙ c.if-word-ne0.false)) o.ensures
+    subst (Went W (words o.new.room) a.n o.result) (end_one W a.x (halves_in W a.n a.end) (sym (count_2 c) ∙ c.if-word-ne0.false)) o.ensures

@@ -25,7 +25,7 @@ loop-x-preserved c =
     let a = c.args in
     let l = c.loop-x in
     let o = c.lower_end-last in
-    (omega arith, ends_turn (words a.room.now) (words l.room) a.n a.end (omega arith) (words o.new.0) l.x l.last o.result (omega arith) l.invariant.1 o.ensures, o.auto.0 ∙ l.invariant.2)
+    (omega arith, ends_turn (words a.room.now) (words l.room) a.n a.end (omega arith) (words o.new.room) l.x l.last o.result (omega arith) l.invariant.1 o.ensures, o.auto.room ∙ l.invariant.2)
 
 pub returns : goal.returns
 returns c =

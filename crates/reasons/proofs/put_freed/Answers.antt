@@ -37,8 +37,8 @@ loop-j-preserved c =
     let ys = part (words a.room.now) (waiting_at + a.from) a.count in
     let j : l.j < a.count = omega arith in (
       omega arith,
-      freed_more a.nodes a.kind a.stage ys a.out.now l.out o.new.0 l.j w.result (omega (arith, many c)) l.invariant.1 (w.ensures ∙ sym (part_at (words a.room.now) (waiting_at + a.from) a.count l.j j)) o.ensures,
-      o.auto.0 ∙ l.invariant.2,
+      freed_more a.nodes a.kind a.stage ys a.out.now l.out o.new.out l.j w.result (omega (arith, many c)) l.invariant.1 (w.ensures ∙ sym (part_at (words a.room.now) (waiting_at + a.from) a.count l.j j)) o.ensures,
+      o.auto.out ∙ l.invariant.2,
     )
 
 pub returns : goal.returns

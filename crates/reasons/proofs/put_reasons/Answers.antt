@@ -53,8 +53,8 @@ make_queue-m-requires c =
     let g = graph_of a.src.now in
     let f = c.first_removal-end in
     let x = c.clear in
-    let W = words f.new.1.0 in
-    let X = words x.new.0 in record { nodes_le_n = (omega arith, d.few_nodes, d.few, omega (arith, d.few_nodes, f.auto.1.0, x.auto.0)); all_small = (cleared_small q g W f.new.0 a.z.nodes n f.result d (long c) f.ensures.0 X x.ensures, λ e. cleared_none q g W f.new.0 a.z.nodes n f.result d (long c) f.ensures.0 X x.ensures) }
+    let W = words f.new.room in
+    let X = words x.new.room in record { nodes_le_n = (omega arith, d.few_nodes, d.few, omega (arith, d.few_nodes, f.auto.room, x.auto.room)); all_small = (cleared_small q g W f.new.out a.z.nodes n f.result d (long c) f.ensures.0 X x.ensures, λ e. cleared_none q g W f.new.out a.z.nodes n f.result d (long c) f.ensures.0 X x.ensures) }
 
 pub returns-then-m-eq0 : goal.returns-then-m-eq0
 returns-then-m-eq0 c =
@@ -66,14 +66,14 @@ returns-then-m-eq0 c =
     let f = c.first_removal-end in
     let x = c.clear in
     let k = c.make_queue-m in
-    let W = words f.new.1.0 in
-    let X = words x.new.0 in
-    let Y = words k.new.0 in
+    let W = words f.new.room in
+    let X = words x.new.room in
+    let Y = words k.new.room in
     let e : k.result ≡ 0 = c.if-m-eq0.true in
-    none_queued q g a.out.now a.z.nodes n k.result d Y f.new.0 f.result (omega (arith, long_2 c, length_words k.new.0, length_words f.new.1.0, k.auto.0, x.auto.0))
-    (queue_explaining q g W f.new.0 a.z.nodes n f.result d (long_2 c) f.ensures.0 X x.ensures Y k.result k.ensures)
-    (subst (λ (m : ℕ). Queued (may Y a.z.nodes) (degrees_in Y n) (keys_in Y queue_at m)) e (queue_queued q g W f.new.0 a.z.nodes n f.result d (long_2 c) f.ensures.0 X x.ensures Y k.result k.ensures))
-    (queue_none q g W f.new.0 a.z.nodes n f.result d (long_2 c) f.ensures.0 X x.ensures Y k.result k.ensures) f.ensures.1
+    none_queued q g a.out.now a.z.nodes n k.result d Y f.new.out f.result (omega (arith, long_2 c, length_words k.new.room, length_words f.new.room, k.auto.room, x.auto.room))
+    (queue_explaining q g W f.new.out a.z.nodes n f.result d (long_2 c) f.ensures.0 X x.ensures Y k.result k.ensures)
+    (subst (λ (m : ℕ). Queued (may Y a.z.nodes) (degrees_in Y n) (keys_in Y queue_at m)) e (queue_queued q g W f.new.out a.z.nodes n f.result d (long_2 c) f.ensures.0 X x.ensures Y k.result k.ensures))
+    (queue_none q g W f.new.out a.z.nodes n f.result d (long_2 c) f.ensures.0 X x.ensures Y k.result k.ensures) f.ensures.1
 
 pub explain-requires : goal.explain-requires
 explain-requires c =
@@ -85,22 +85,22 @@ explain-requires c =
     let f = c.first_removal-end in
     let x = c.clear in
     let k = c.make_queue-m in
-    let W = words f.new.1.0 in
-    let X = words x.new.0 in
-    let Y = words k.new.0 in record {
-      nodes_in_bounds = (omega (arith, f.auto.0), positive c.if-m-eq0.false, omega (arith, d.few_nodes, k.ensures.few, f.auto.1.0, x.auto.0, k.auto.0), c.requires.2);
+    let W = words f.new.room in
+    let X = words x.new.room in
+    let Y = words k.new.room in record {
+      nodes_in_bounds = (omega (arith, f.auto.out), positive c.if-m-eq0.false, omega (arith, d.few_nodes, k.ensures.few, f.auto.room, x.auto.room, k.auto.room), c.requires.2);
       explaining = (
-        queue_explaining q g W f.new.0 a.z.nodes n f.result d (long_3 c) f.ensures.0 X x.ensures Y k.result k.ensures,
+        queue_explaining q g W f.new.out a.z.nodes n f.result d (long_3 c) f.ensures.0 X x.ensures Y k.result k.ensures,
         (
-          queue_queued q g W f.new.0 a.z.nodes n f.result d (long_3 c) f.ensures.0 X x.ensures Y k.result k.ensures,
-          queue_none q g W f.new.0 a.z.nodes n f.result d (long_3 c) f.ensures.0 X x.ensures Y k.result k.ensures,
+          queue_queued q g W f.new.out a.z.nodes n f.result d (long_3 c) f.ensures.0 X x.ensures Y k.result k.ensures,
+          queue_none q g W f.new.out a.z.nodes n f.result d (long_3 c) f.ensures.0 X x.ensures Y k.result k.ensures,
         ),
       ).0;
       queued = (
-        queue_explaining q g W f.new.0 a.z.nodes n f.result d (long_3 c) f.ensures.0 X x.ensures Y k.result k.ensures,
+        queue_explaining q g W f.new.out a.z.nodes n f.result d (long_3 c) f.ensures.0 X x.ensures Y k.result k.ensures,
         (
-          queue_queued q g W f.new.0 a.z.nodes n f.result d (long_3 c) f.ensures.0 X x.ensures Y k.result k.ensures,
-          queue_none q g W f.new.0 a.z.nodes n f.result d (long_3 c) f.ensures.0 X x.ensures Y k.result k.ensures,
+          queue_queued q g W f.new.out a.z.nodes n f.result d (long_3 c) f.ensures.0 X x.ensures Y k.result k.ensures,
+          queue_none q g W f.new.out a.z.nodes n f.result d (long_3 c) f.ensures.0 X x.ensures Y k.result k.ensures,
         ),
       ).1;
     }

@@ -20,7 +20,7 @@ loop-x-preserved c =
     let a = c.args in
     let l = c.loop-x in
     let o = c.raise in
-    (omega arith, raises_turn (words a.room.now) (words l.room) (words o.new.0) a.n l.x (omega arith) (omega arith) l.invariant.1 o.ensures, o.auto.0 ∙ l.invariant.2)
+    (omega arith, raises_turn (words a.room.now) (words l.room) (words o.new.room) a.n l.x (omega arith) (omega arith) l.invariant.1 o.ensures, o.auto.room ∙ l.invariant.2)
 
 pub returns : goal.returns
 returns c =

@@ -107,4 +107,4 @@ returns c =
     let a = c.args in
     let d = drawn (form_5 c) in
     let p = c.put_reasons-ids in
-    subst (λ (x : Answer Result). Gives x (call.Done c.in-Sized.z.nodes p.result) a.out.now p.new.0) (sym (whole_2 c)) (answer_0 (graph_of a.src.now) _ d.nodes_is a.out.now p.new.0 p.result (omega arith) p.ensures)
+    subst (λ (x : Answer Result). Gives x (call.Done c.in-Sized.z.nodes p.result) a.out.now p.new.out) (sym (whole_2 c)) (answer_0 (graph_of a.src.now) _ d.nodes_is a.out.now p.new.out p.result (omega arith) p.ensures)

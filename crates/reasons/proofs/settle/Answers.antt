@@ -37,15 +37,15 @@ overflow_sub-last c = omega (arith, later c)
 pub put_freed-requires : goal.put_freed-requires
 put_freed-requires c =
     let p = c.peel-last in
-    (omega arith, omega arith, omega (arith, later c, p.ensures.few), omega (arith, p.auto.0))
+    (omega arith, omega arith, omega (arith, later c, p.ensures.few), omega (arith, p.auto.room))
 
 pub returns : goal.returns
 returns c =
     let a = c.args in
     let p = c.peel-last in
-    let X = words p.new.0 in
+    let X = words p.new.room in
     let above : a.from ≤ p.result = omega (arith, later_2 c) in (
       record { went = p.ensures; later_2 = above },
       c.put_freed.ensures
-          ∙ ap (λ (ys : List ℕ). freed_all a.nodes a.kind a.stage ys a.out.now) (waited_part X a.n a.from p.result above p.ensures.few (omega arith) (omega (arith, length_words p.new.0, p.auto.0))),
+          ∙ ap (λ (ys : List ℕ). freed_all a.nodes a.kind a.stage ys a.out.now) (waited_part X a.n a.from p.result above p.ensures.few (omega arith) (omega (arith, length_words p.new.room, p.auto.room))),
     )

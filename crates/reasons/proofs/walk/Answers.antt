@@ -26,11 +26,11 @@ settle-requires c =
     let q = source a.s.now a.r in
     let W = words a.room.now in
     let o = c.lower_all-gone in
-    let M = words o.new.0 in
+    let M = words o.new.room in
     let h = lower_all (list_in q W a.nodes a.y) (halves_in W a.n a.end) in
     let y = c.requires.nodes_in_bounds.2 in
     let roomy = roomy_all a.n (list_in q W a.nodes a.y) (halves_in W a.n a.end) (c.requires.roomy.1.low a.y y) c.requires.roomy.0 in record {
-      nodes_in_bounds = (omega arith, omega arith, walked_later q W M a.nodes a.n (omega arith) (long c) a.y a.end o.result (omega arith) o.ensures, omega arith, omega arith, o.ensures.few, omega (arith, o.auto.0));
+      nodes_in_bounds = (omega arith, omega arith, walked_later q W M a.nodes a.n (omega arith) (long c) a.y a.end o.result (omega arith) o.ensures, omega arith, omega arith, o.ensures.few, omega (arith, o.auto.room));
       roomy = (
         after_roomy q W M M a.nodes a.n (omega arith) (omega arith) (long c) c.requires.roomy.1 h roomy o.result o.ensures,
         after_lists q W M M a.nodes a.n (omega arith) (omega arith) (long c) c.requires.roomy.1 h roomy o.result o.ensures,
@@ -44,10 +44,10 @@ returns c =
     let W = words a.room.now in
     let o = c.lower_all-gone in
     let t = c.settle in
-    let M = words o.new.0 in
+    let M = words o.new.room in
     let h = lower_all (list_in q W a.nodes a.y) (halves_in W a.n a.end) in
     let y = c.requires.nodes_in_bounds.2 in
     let roomy = roomy_all a.n (list_in q W a.nodes a.y) (halves_in W a.n a.end) (c.requires.roomy.1.low a.y y) c.requires.roomy.0 in (
-      after_settled q W M (words t.new.1.0) a.nodes a.n (omega arith) (omega arith) (long_2 c) c.requires.roomy.1 h roomy o.result o.ensures a.end t.result t.ensures.0,
+      after_settled q W M (words t.new.room) a.nodes a.n (omega arith) (omega arith) (long_2 c) c.requires.roomy.1 h roomy o.result o.ensures a.end t.result t.ensures.0,
       t.ensures.1,
     )

@@ -24,7 +24,7 @@ returns-then-y-nodes c =
     let start = c.word-start in
     let count = c.word-count in
     let o = c.lower_listed in
-    went_listed (source a.s.now a.r) (words a.room.now) (words o.new.0) a.nodes a.n a.y start.result count.result a.end o.result start.ensures count.ensures (omega arith) o.ensures
+    went_listed (source a.s.now a.r) (words a.room.now) (words o.new.room) a.nodes a.n a.y start.result count.result a.end o.result start.ensures count.ensures (omega arith) o.ensures
 
 pub lower_formed-requires : goal.lower_formed-requires
 lower_formed-requires c =
@@ -40,4 +40,4 @@ returns c =
     let start = c.word-start in
     let count = c.word-count in
     let o = c.lower_formed in
-    went_formed (source a.s.now a.r) (words a.room.now) (words o.new.0) a.nodes a.n a.y start.result count.result a.end o.result start.ensures count.ensures (omega arith) o.ensures
+    went_formed (source a.s.now a.r) (words a.room.now) (words o.new.room) a.nodes a.n a.y start.result count.result a.end o.result start.ensures count.ensures (omega arith) o.ensures

@@ -56,8 +56,8 @@ loop-j-preserved c =
     let o = c.lower-last in
     let j : l.j < length ts = omega (arith, formed_length (source a.s.now a.r) a.start a.count a.side) in (
       omega arith,
-      walk_turn W a.n a.end ts (words l.room) l.j l.last l.invariant.1 (2 * c.number-id.result + a.side) j (next_2 c) (words o.new.0) o.result o.ensures,
-      o.auto.0 ∙ l.invariant.2,
+      walk_turn W a.n a.end ts (words l.room) l.j l.last l.invariant.1 (2 * c.number-id.result + a.side) j (next_2 c) (words o.new.room) o.result o.ensures,
+      o.auto.room ∙ l.invariant.2,
     )
 
 pub returns : goal.returns

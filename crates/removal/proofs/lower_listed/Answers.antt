@@ -58,8 +58,8 @@ loop-j-preserved c =
     let o = c.lower-last in
     let j : l.j < length ts = omega (arith, listed_length W a.start a.count (omega arith) (long_2 c)) in (
       omega arith,
-      walk_turn W a.n a.end ts (words l.room) l.j l.last l.invariant.1 c.word-y.result j (next_2 c) (words o.new.0) o.result o.ensures,
-      o.auto.0 ∙ l.invariant.2,
+      walk_turn W a.n a.end ts (words l.room) l.j l.last l.invariant.1 c.word-y.result j (next_2 c) (words o.new.room) o.result o.ensures,
+      o.auto.room ∙ l.invariant.2,
     )
 
 pub returns : goal.returns

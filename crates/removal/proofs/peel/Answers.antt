@@ -85,9 +85,9 @@ loop-first-preserved-then-y-nodes c =
     let start = c.word-start in
     let count = c.word-count in
     let o = c.lower_listed-last in (
-      peeling_turn (source a.s.now a.r) (words a.room.now) a.nodes a.n a.from a.end (omega arith) (long_3 c) X l.first l.last l.invariant.0 (omega (arith, c.loop-first-test.true)) c.requires.roomy.1 y.result y.ensures (words o.new.0) o.result
-          (went_listed (source a.s.now a.r) X (words o.new.0) a.nodes a.n y.result start.result count.result l.last o.result start.ensures count.ensures (omega arith) o.ensures),
-      o.auto.0 ∙ l.invariant.1,
+      peeling_turn (source a.s.now a.r) (words a.room.now) a.nodes a.n a.from a.end (omega arith) (long_3 c) X l.first l.last l.invariant.0 (omega (arith, c.loop-first-test.true)) c.requires.roomy.1 y.result y.ensures (words o.new.room) o.result
+          (went_listed (source a.s.now a.r) X (words o.new.room) a.nodes a.n y.result start.result count.result l.last o.result start.ensures count.ensures (omega arith) o.ensures),
+      o.auto.room ∙ l.invariant.1,
     )
 
 pub lower_formed-last-requires : goal.lower_formed-last-requires
@@ -114,9 +114,9 @@ loop-first-preserved c =
     let start = c.word-start in
     let count = c.word-count in
     let o = c.lower_formed-last in (
-      peeling_turn (source a.s.now a.r) (words a.room.now) a.nodes a.n a.from a.end (omega arith) (long_5 c) X l.first l.last l.invariant.0 (omega (arith, c.loop-first-test.true)) c.requires.roomy.1 y.result y.ensures (words o.new.0) o.result
-          (went_formed (source a.s.now a.r) X (words o.new.0) a.nodes a.n y.result start.result count.result l.last o.result start.ensures count.ensures (omega arith) o.ensures),
-      o.auto.0 ∙ l.invariant.1,
+      peeling_turn (source a.s.now a.r) (words a.room.now) a.nodes a.n a.from a.end (omega arith) (long_5 c) X l.first l.last l.invariant.0 (omega (arith, c.loop-first-test.true)) c.requires.roomy.1 y.result y.ensures (words o.new.room) o.result
+          (went_formed (source a.s.now a.r) X (words o.new.room) a.nodes a.n y.result start.result count.result l.last o.result start.ensures count.ensures (omega arith) o.ensures),
+      o.auto.room ∙ l.invariant.1,
     )
 
 pub returns : goal.returns

@@ -107,6 +107,6 @@ returns c =
     let h = halves_in W a.n a.end in
     let o = c.lower_all in
     let m = c.lower_all-mid in
-    went_list (source a.s.now a.r) W (words m.new.0) (words o.new.0) a.nodes a.n (2 * a.x + 1) m.result o.result
+    went_list (source a.s.now a.r) W (words m.new.room) (words o.new.room) a.nodes a.n (2 * a.x + 1) m.result o.result
     (lower_all (list_in (source a.s.now a.r) W a.nodes (2 * a.x)) (record { degrees = drop_both a.x h.degrees; waiting = h.waiting }))
     (omega arith) (omega arith) (long_3 c) c.requires.roomy.1 (one_2 c) o.ensures

@@ -21,7 +21,7 @@ loop-x-preserved c =
     let a = c.args in
     let l = c.loop-x in
     let o = c.seed-end in
-    (omega arith, omega (arith, o.ensures.1), seeds_turn (words a.room.now) (words l.room) (words o.new.0) a.n l.x l.end o.result l.invariant.2 o.ensures.0, o.auto.0 ∙ l.invariant.3)
+    (omega arith, omega (arith, o.ensures.1), seeds_turn (words a.room.now) (words l.room) (words o.new.room) a.n l.x l.end o.result l.invariant.2 o.ensures.0, o.auto.room ∙ l.invariant.3)
 
 pub returns : goal.returns
 returns c =

@@ -43,7 +43,7 @@ pub copy_numbers-requires : goal.copy_numbers-requires
 copy_numbers-requires c =
     let p = c.requires in
     let d = c.put_header in (
-      held p.1.labels c.label_row-to_labels.ensures d.new.0
+      held p.1.labels c.label_row-to_labels.ensures d.new.out
           (ap length d.ensures ∙ length_headed _ _) (sym (ap (λ (n : Counts). n.nodes + n.edges) p.2)),
       held (stored_rows p.0).labels_held c.label_row-from_labels.ensures _ refl refl,
     )
@@ -54,7 +54,7 @@ copy_numbers-requires-2 c =
     let n = c.body_size-numbers.ensures in
     let d = c.copy_numbers in
     let e = c.put_header in (
-      held p.1.body c.body_row-to_body.ensures d.new.0
+      held p.1.body c.body_row-to_body.ensures d.new.d
           (ap length d.ensures ∙ length_puts _ _ _ _ ∙ ap length e.ensures ∙ length_headed _ _) (n ∙ sym (λ i. body_size (sized 0 (p.2 i) (p.3 i)))),
       held (stored_rows p.0).body_held c.body_row-from_body.ensures _ refl n,
     )

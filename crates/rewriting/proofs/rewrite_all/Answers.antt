@@ -18,7 +18,7 @@ use Rattle.rewriting.proofs.rewrite_all.Goals.{After-put_spiders-arg-1, After-sl
 -- what the passes left
 rewritten : (c : After-put_spiders-arg-1) (g : Graph) → Laid g c.args.nodes c.args.edges c.args.y c.args.room.now c.args.out.now
     → AllRewritten g c.args.nodes c.args.y (is_listed c.args.nodes (cells c.args.room.now)) c.args.out.now (cells c.rewrite_lists.new.room) c.rewrite_lists.new.out c.rewrite_lists.result
-rewritten c g h = let f = c.rewrite_edges-next in lists_passed h c.requires.1 f.new.1.1.1.0 c.rewrite_lists.new.room (f.ensures g h) c.rewrite_lists.ensures
+rewritten c g h = let f = c.rewrite_edges-next in lists_passed h c.requires.1 f.new.room c.rewrite_lists.new.room (f.ensures g h) c.rewrite_lists.ensures
 
 table : (c : After-put_spiders-arg-1) (g : Graph) → Laid g c.args.nodes c.args.edges c.args.y c.args.room.now c.args.out.now
     → Table c.args.nodes c.rewrite_lists.new.room (all_fresh (is_listed c.args.nodes (cells c.args.room.now)) g c.args.nodes)
@@ -30,7 +30,7 @@ table c g h = let n = h.plan.numbered in
 -- what the passes left
 rewritten_2 : (c : After-slice_known-7-1) (g : Graph) → Laid g c.args.nodes c.args.edges c.args.y c.args.room.now c.args.out.now
     → AllRewritten g c.args.nodes c.args.y (is_listed c.args.nodes (cells c.args.room.now)) c.args.out.now (cells c.rewrite_lists.new.room) c.rewrite_lists.new.out c.rewrite_lists.result
-rewritten_2 c g h = let f = c.rewrite_edges-next in lists_passed h c.requires.1 f.new.1.1.1.0 c.rewrite_lists.new.room (f.ensures g h) c.rewrite_lists.ensures
+rewritten_2 c g h = let f = c.rewrite_edges-next in lists_passed h c.requires.1 f.new.room c.rewrite_lists.new.room (f.ensures g h) c.rewrite_lists.ensures
 
 table_2 : (c : After-slice_known-7-1) (g : Graph) → Laid g c.args.nodes c.args.edges c.args.y c.args.room.now c.args.out.now
     → Table c.args.nodes c.rewrite_lists.new.room (all_fresh (is_listed c.args.nodes (cells c.args.room.now)) g c.args.nodes)
@@ -43,7 +43,7 @@ pub rewrite_lists-requires : goal.rewrite_lists-requires
 rewrite_lists-requires c =
     let f = c.rewrite_edges-next in
     let h = c.requires.0.1 in
-    lists_ready h c.requires.1 (f.ensures _ h) f.auto.1.1.1.0 f.auto.1.1.1.1.0
+    lists_ready h c.requires.1 (f.ensures _ h) f.auto.room f.auto.out
 
 pub put_spiders-requires : goal.put_spiders-requires
 put_spiders-requires c =

@@ -37,7 +37,7 @@ pub loop-i-preserved : goal.loop-i-preserved
 loop-i-preserved c =
     let l = c.loop-i in
     let f = c.rewrite_entry-next in
-    (l.invariant.0, passed_more c.requires _ 1 2 l.invariant.1 (less_2 c) c.kind_at-kind.ensures f.ensures f.auto.1.1.1.1.0 f.auto.1.1.1.1.1.0)
+    (l.invariant.0, passed_more c.requires _ 1 2 l.invariant.1 (less_2 c) c.kind_at-kind.ensures f.ensures f.auto.room f.auto.out)
 
 pub returns : goal.returns
 returns c = let l = c.loop-i in passed_all c.requires _ 1 2 l.invariant.1 (omega (arith, l.invariant.0, c.loop-i-test.false))

@@ -67,13 +67,13 @@ loop-i-preserved c =
     let l = c.loop-i in
     let q = c.rewrite_edge-next in (
       omega (arith, less_3 c),
-      q.auto.1.1.1.1.0 ∙ l.invariant.1,
-      q.auto.1.1.1.1.1.0 ∙ l.invariant.2,
-      below_each 256 q.new.1.1.1.1.1.0 (λ i d. omega (arith, c.type_inv.out i)),
+      q.auto.room ∙ l.invariant.1,
+      q.auto.out ∙ l.invariant.2,
+      below_each 256 q.new.out (λ i d. omega (arith, c.type_inv.out i)),
       λ g h.
           let t = l.invariant.4 g h in
           let m = met_2 c g h in
-          (m.end, walk_more h c.requires.1 l.room (less_3 c) t.0 t.1 l.invariant.2 m l.invariant.3 q.new.1.1.1.1.0 q.ensures),
+          (m.end, walk_more h c.requires.1 l.room (less_3 c) t.0 t.1 l.invariant.2 m l.invariant.3 q.new.room q.ensures),
     )
 
 pub returns : goal.returns

@@ -66,7 +66,7 @@ loop-i-preserved c =
     let less = c.loop-i-test.true in (
       omega (arith, less),
       f.next,
-      counted_turn (graph_of c.args.src.now) (drawn c.requires.0) c.args.room.now l.room two.new.0 l.i (omega (arith, less, is_edges c.requires.0)) c.requires.1 l.invariant.2
+      counted_turn (graph_of c.args.src.now) (drawn c.requires.0) c.args.room.now l.room two.new.room l.i (omega (arith, less, is_edges c.requires.0)) c.requires.1 l.invariant.2
           (two.ensures ∙ (λ i. shifted_all 1 (f.targets_are i) ((one.ensures ∙ (λ j. shifted_all 65536 (f.sources_are j) l.room)) i))),
     )
 

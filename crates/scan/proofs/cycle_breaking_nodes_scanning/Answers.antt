@@ -147,14 +147,14 @@ returns-in_default-marked c =
     let f = c.mark_nodes-marked in
     let s = form_5 c in
     gives_refused c.refusal-in_default-marked.result a.list.now
-    (whole c ∙ keeping_refused (kept c) (graph_of a.src.now) (drawn s) _ _ (is_nodes s) (is_all s) f.new.0 f.result f.ensures c.refusal-in_default-marked.result (passed_on c.in_default-marked.is c.refusal-in_default-marked.ensures) (format_of a.src.now) (length a.list.now))
+    (whole c ∙ keeping_refused (kept c) (graph_of a.src.now) (drawn s) _ _ (is_nodes s) (is_all s) f.new.room f.result f.ensures c.refusal-in_default-marked.result (passed_on c.in_default-marked.is c.refusal-in_default-marked.ensures) (format_of a.src.now) (length a.list.now))
 
 pub put_answer-requires : goal.put_answer-requires
 put_answer-requires c =
     let s = form_6 c in
     let d = drawn s in
     let f = c.mark_nodes-marked in
-    let room = long_2 c in record { most_nodes_in_bounds = (omega (arith, room, f.auto.0), (stored_rows s).low.width, omega (arith, is_nodes s, d.few_nodes), omega (arith, is_nodes s, is_edges s, d.few)); free_len = keeping_counted (kept_2 c) (graph_of c.args.src.now) d _ _ (is_nodes s) (is_all s) f.new.0 f.result f.ensures _ c.in-Number-marked.is }
+    let room = long_2 c in record { most_nodes_in_bounds = (omega (arith, room, f.auto.room), (stored_rows s).low.width, omega (arith, is_nodes s, d.few_nodes), omega (arith, is_nodes s, is_edges s, d.few)); free_len = keeping_counted (kept_2 c) (graph_of c.args.src.now) d _ _ (is_nodes s) (is_all s) f.new.room f.result f.ensures _ c.in-Number-marked.is }
 
 pub returns : goal.returns
 returns c =
@@ -164,6 +164,6 @@ returns c =
     let f = c.mark_nodes-marked in
     let p = c.put_answer in
     let width : (format_of b).width ≡ c.in-Sized.z.width = ap (λ (y : Sizes). y.width) (sym s.sizes) in
-    subst (λ (x : Answer Result). Gives x p.result a.list.now p.new.0)
-    (sym (whole_2 c ∙ keeping_listed_lem (kept_3 c) (graph_of b) (drawn s) _ _ (is_nodes s) (is_all s) f.new.0 f.result f.ensures _ c.in-Number-marked.is (format_of b) (length a.list.now)))
+    subst (λ (x : Answer Result). Gives x p.result a.list.now p.new.list)
+    (sym (whole_2 c ∙ keeping_listed_lem (kept_3 c) (graph_of b) (drawn s) _ _ (is_nodes s) (is_all s) f.new.room f.result f.ensures _ c.in-Number-marked.is (format_of b) (length a.list.now)))
     (p.ensures (format_of b) width)

@@ -72,5 +72,5 @@ pub returns : goal.returns
 returns c =
     let g = graph_of c.args.src.now in
     let o = c.count_edges in
-    prepared g (drawn c.requires.stored.0) room_cycle_breaking_nodes_scanning (le_refl room_cycle_breaking_nodes_scanning) c.args.room.now c.requires.room_cycle_breaking_nodes_scanning_in_bounds (ids_3 c) (low_3 c) o.new.0
-    (subst (λ (q : List ℕ). Counted g q o.new.0 (length g.edges)) (marked_2 c) (subst (Counted g c.mark_kept.new.room o.new.0) (is_edges c.requires.stored.0) o.ensures))
+    prepared g (drawn c.requires.stored.0) room_cycle_breaking_nodes_scanning (le_refl room_cycle_breaking_nodes_scanning) c.args.room.now c.requires.room_cycle_breaking_nodes_scanning_in_bounds (ids_3 c) (low_3 c) o.new.room
+    (subst (λ (q : List ℕ). Counted g q o.new.room (length g.edges)) (marked_2 c) (subst (Counted g c.mark_kept.new.room o.new.room) (is_edges c.requires.stored.0) o.ensures))

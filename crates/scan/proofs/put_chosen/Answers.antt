@@ -28,8 +28,8 @@ loop-v-preserved c = let a = c.args in
     let o = c.put_shown-k in (
       omega arith,
       omega (arith, o.ensures.0, l.invariant.1, ap length (shown_next p l.v), length-append (shown_below p l.v) (shown p l.v)),
-      shown_turn a.room.now a.list.now l.list o.new.0 a.r l.v l.k l.invariant.1 l.invariant.2 o.ensures.1,
-      o.auto.0 ∙ l.invariant.3,
+      shown_turn a.room.now a.list.now l.list o.new.list a.r l.v l.k l.invariant.1 l.invariant.2 o.ensures.1,
+      o.auto.list ∙ l.invariant.3,
     )
 
 pub returns : goal.returns

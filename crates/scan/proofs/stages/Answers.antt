@@ -84,7 +84,7 @@ pub best_node-best-requires : goal.best_node-best-requires
 best_node-best-requires c = (omega (arith, is_nodes c.requires.0, (drawn c.requires.0).few_nodes), omega (arith, c.requires.1, c.loop-gone.invariant.0))
 
 pub returns-then-best-eq0 : goal.returns-then-best-eq0
-returns-then-best-eq0 c =
+returns-then-best-eq0 c kept b =
     let l = c.loop-gone in
     run_stuck (graph_of c.args.src.now) (drawn c.requires.0) kept l.room (omega (arith, c.requires.1, l.invariant.0)) l.gone (l.invariant.2 kept b) c.best_node-best.result (top c) c.if-best-eq0.true (some c)
 
@@ -108,12 +108,12 @@ loop-gone-preserved c =
     let l = c.loop-gone in
     let b = c.best_node-best.result in
     let o = c.settle-gone in (
-      o.auto.0 ∙ length-set l.room b.node 2 ∙ l.invariant.0,
+      o.auto.room ∙ length-set l.room b.node 2 ∙ l.invariant.0,
       omega (arith, fewer c, l.invariant.1),
-      λ kept begun. run_turn (graph_of c.args.src.now) (drawn c.requires.0) kept l.room (omega (arith, c.requires.1, l.invariant.0)) l.gone (l.invariant.2 kept begun) b (top_3 c) c.if-best-eq0.false o.new.0 o.result o.ensures,
+      λ kept begun. run_turn (graph_of c.args.src.now) (drawn c.requires.0) kept l.room (omega (arith, c.requires.1, l.invariant.0)) l.gone (l.invariant.2 kept begun) b (top_3 c) c.if-best-eq0.false o.new.room o.result o.ensures,
     )
 
 pub returns : goal.returns
-returns c =
+returns c kept b =
     let l = c.loop-gone in
     run_done (graph_of c.args.src.now) (drawn c.requires.0) kept l.room (omega (arith, c.requires.1, l.invariant.0)) l.gone (l.invariant.2 kept b) (omega (arith, l.invariant.1, (few_5 c).1, c.loop-gone-test.false))

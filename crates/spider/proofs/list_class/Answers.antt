@@ -16,6 +16,6 @@ returns c =
     let l = c.list_id in
     let room = c.args.room.now in
     let w = c.word-class in (
-      ap cells (back_table room l.new.0 (omega arith) l.auto.0) ∙ l.ensures ∙ ap (λ (x : ℕ). sets (cells (table_of room)) (x * 4) (replicate 4 0)) w.ensures,
-      back_map room l.new.0 (omega arith) l.auto.0,
+      ap cells (back_table room l.new.room (omega arith) l.auto.room) ∙ l.ensures ∙ ap (λ (x : ℕ). sets (cells (table_of room)) (x * 4) (replicate 4 0)) w.ensures,
+      back_map room l.new.room (omega arith) l.auto.room,
     )

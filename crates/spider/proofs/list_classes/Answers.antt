@@ -66,7 +66,7 @@ loop-j-preserved c =
     let W = words a.room.now in
     let table = cells (table_of l.room) in (
       omega arith,
-      o.auto.0 ∙ l.invariant.1,
+      o.auto.room ∙ l.invariant.1,
       (λ v h. o.ensures.1 v h ∙ l.invariant.2 v h),
       λ h. rw (looked_next W a.ids.now a.r 0 l.j)
           (list_more a.nodes table _ (looked W (span a.ids.now a.r 0 l.j)) _ (class_known_2 c)

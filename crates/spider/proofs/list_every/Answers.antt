@@ -9,4 +9,4 @@ use Rattle.spider.proofs.list_every.Goals as goal
 pub returns : goal.returns
 returns c =
     let l = c.list_all in
-    listed_behind c.args.room.now l.new.0 (omega arith) l.auto.0 c.args.nodes (λ x. true) l.ensures
+    listed_behind c.args.room.now l.new.room (omega arith) l.auto.room c.args.nodes (λ x. true) l.ensures

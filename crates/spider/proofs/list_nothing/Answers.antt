@@ -9,4 +9,4 @@ use Rattle.spider.proofs.list_nothing.Goals as goal
 pub returns : goal.returns
 returns c =
     let l = c.list_none in
-    listed_behind c.args.room.now l.new.0 (omega arith) l.auto.0 c.args.nodes (λ x. false) l.ensures
+    listed_behind c.args.room.now l.new.room (omega arith) l.auto.room c.args.nodes (λ x. false) l.ensures

@@ -94,7 +94,7 @@ returns-in_default-merging c =
     let r = c.map_classes-merging in
     let x = c.enum_told-in_default-merging-1.given in
     let g = graph_of a.src.now in
-    stopped (form_2 c) (λ f. spiderize_all_step) a.out.now x.1 c.refusal-in_default-merging.ensures (spiderize_all_11 g _ (told_refused g _ r.result r.ensures x.0.0 x.1))
+    stopped (form_2 c) (λ f. spiderize_all_step) a.out.now c.in_default-merging.is c.refusal-in_default-merging.ensures (spiderize_all_11 g _ (told_refused g _ r.result r.ensures c.in_default-merging.field-0 c.in_default-merging.is))
 
 pub list_every-requires : goal.list_every-requires
 list_every-requires c = (roomy c, classes_few (form_3 c).form (told c))

@@ -211,9 +211,9 @@ returns-in_default-list c =
     let x = c.enum_told-in_default-list-1.given in
     let l = c.id_list-list in
     let o = form_2 c in
-    let e = ids_refused o.form _ _ l.result l.ensures x.0.0 x.1 in
-    stopped o (next_3 c) c.args.out.now x.1 c.refusal-in_default-list.ensures
-    (spiderize_7 (format_of b) c.args.ids.now (graph_of b) (meant_by x.0.0) (ap (λ (n : ℕ). id_list (format_of b) n c.args.ids.now) (sym o.nodes) ∙ e))
+    let e = ids_refused o.form _ _ l.result l.ensures c.in_default-list.field-0 c.in_default-list.is in
+    stopped o (next_3 c) c.args.out.now c.in_default-list.is c.refusal-in_default-list.ensures
+    (spiderize_7 (format_of b) c.args.ids.now (graph_of b) (meant_by c.in_default-list.field-0) (ap (λ (n : ℕ). id_list (format_of b) n c.args.ids.now) (sym o.nodes) ∙ e))
 
 pub map_classes-merging-requires : goal.map_classes-merging-requires
 map_classes-merging-requires c = let o = form_3 c in (o.form, omega (arith, o.roomy, o.nodes, o.form.within.counts.nodes))
@@ -223,8 +223,8 @@ returns-in_default-merging c =
     let b = c.args.src.now in
     let r = c.map_classes-merging in
     let x = c.enum_told-in_default-merging-1.given in
-    stopped (form_4 c) (next_4 c) c.args.out.now x.1 c.refusal-in_default-merging.ensures
-    (spiderize_11 (format_of b) c.args.ids.now (graph_of b) _ (is_list c) _ (told_refused (graph_of b) _ r.result r.ensures x.0.0 x.1))
+    stopped (form_4 c) (next_4 c) c.args.out.now c.in_default-merging.is c.refusal-in_default-merging.ensures
+    (spiderize_11 (format_of b) c.args.ids.now (graph_of b) _ (is_list c) _ (told_refused (graph_of b) _ r.result r.ensures c.in_default-merging.field-0 c.in_default-merging.is))
 
 pub list_nothing-requires : goal.list_nothing-requires
 list_nothing-requires c = (roomy c, few c)

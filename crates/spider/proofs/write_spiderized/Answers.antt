@@ -111,8 +111,8 @@ pub returns-in_default : goal.returns-in_default
 returns-in_default c = λ next is.
     let x = c.enum_told-1.given in
     let r = c.result_size-size in
-    passes (c.refusal.ensures ∙ ap refusal_in x.1)
-    (graph_refused c.args.src.now next c.args.out.now c.requires.mapped.stored (result_2 c) is c.result_sizes-y.result (sizes_2 c) r.result r.ensures x.0.0 x.1)
+    passes (c.refusal.ensures ∙ ap refusal_in c.in_default.is)
+    (graph_refused c.args.src.now next c.args.out.now c.requires.mapped.stored (result_2 c) is c.result_sizes-y.result (sizes_2 c) r.result r.ensures c.in_default.field-0 c.in_default.is)
 
 pub put_copied-requires : goal.put_copied-requires
 put_copied-requires c = (c.requires.mapped, buffer c, (c.args.nodes, table_of c.args.room.now, plan c))

@@ -36,7 +36,7 @@ overflow_mul-start c =
     omega (arith, mul-le-mul_right {m = a.k} {n = 16} (a.count / 16 + 1) (omega (arith, c.requires.3)), holds_index c.requires.0)
 
 pub returns-then-count-start : goal.returns-then-count-start
-returns-then-count-start c = absurd (false≢true e)
+returns-then-count-start c e = absurd (false≢true e)
 
 pub overflow_add-first : goal.overflow_add-first
 overflow_add-first c = omega (arith, holds_index c.requires.0)
@@ -45,7 +45,7 @@ pub some_left-requires : goal.some_left-requires
 some_left-requires c = part_asked c _ _ (omega arith)
 
 pub returns-then-rest-size : goal.returns-then-rest-size
-returns-then-rest-size c =
+returns-then-rest-size c e =
     let a = c.args in
     part_left a.src.now a.r a.first a.count _ _ (omega arith) a.room.now (sym c.some_left.ensures ∙ e)
 
@@ -56,6 +56,6 @@ pub some_left-requires-2 : goal.some_left-requires-2
 some_left-requires-2 c = part_asked_2 c _ _ (omega arith)
 
 pub returns : goal.returns
-returns c =
+returns c e =
     let a = c.args in
     part_left a.src.now a.r a.first a.count _ _ (omega arith) a.room.now (sym c.some_left-2.ensures ∙ e)

@@ -40,12 +40,12 @@ returns c =
     let w = c.sweep-swept in
     record {
       moves = moves_then c.loop-z.invariant.1 w.ensures.moves;
-      stable = settled_stable (graph_of c.args.src.now) (drawn c.requires.0) w.new.0 (omega (arith, c.requires.1, w.auto.0, c.loop-z.invariant.0))
+      stable = settled_stable (graph_of c.args.src.now) (drawn c.requires.0) w.new.room (omega (arith, c.requires.1, w.auto.room, c.loop-z.invariant.0))
           (λ i l. w.ensures.still c.if-swept.true i (omega (arith, is_edges c.requires.0)));
       sweeps = c.loop-z.invariant.2.0;
       before = c.loop-z.room;
       run = c.loop-z.invariant.2.1;
-      last = (w.result.edges, subst (λ (k : ℕ). Swept (graph_of c.args.src.now) c.loop-z.room w.new.0 (length (graph_of c.args.src.now).edges) k w.result.edges) c.if-swept.true (swept c));
+      last = (w.result.edges, subst (λ (k : ℕ). Swept (graph_of c.args.src.now) c.loop-z.room w.new.room (length (graph_of c.args.src.now).edges) k w.result.edges) c.if-swept.true (swept c));
     }
 
 pub loop-z-smaller : goal.loop-z-smaller
@@ -58,4 +58,4 @@ pub loop-z-preserved : goal.loop-z-preserved
 loop-z-preserved c =
     let l = c.loop-z in
     let w = c.sweep-swept in
-    (w.auto.0 ∙ l.invariant.0, moves_then l.invariant.1 w.ensures.moves, (suc l.invariant.2.0, another w.new.0 w.result.all w.result.edges l.invariant.2.1 (swept_2 c) c.if-swept.false))
+    (w.auto.room ∙ l.invariant.0, moves_then l.invariant.1 w.ensures.moves, (suc l.invariant.2.0, another w.new.room w.result.all w.result.edges l.invariant.2.1 (swept_2 c) c.if-swept.false))

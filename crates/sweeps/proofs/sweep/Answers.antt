@@ -37,8 +37,8 @@ seen c = let f = read_2 c in
     let n = is_nodes c.requires.0 in
     let l = c.loop-i in
     let o = c.visit_held in (
-      o.ensures.0 ∙ (λ i. visited_of (f.sources_are i) (f.targets_are i) (n i + l.i) l.room),
-      subst (λ (q : List ℕ). Alike q o.new.0) (λ i. visited (f.sources_are i) (f.targets_are i) (n i + l.i) l.room) o.ensures.1,
+      o.ensures.value ∙ (λ i. visited_of (f.sources_are i) (f.targets_are i) (n i + l.i) l.room),
+      subst (λ (q : List ℕ). Alike q o.new.room) (λ i. visited (f.sources_are i) (f.targets_are i) (n i + l.i) l.room) o.ensures.alike,
     )
 
 -- the edge as it was read
@@ -54,8 +54,8 @@ seen_2 c = let f = read_3 c in
     let n = is_nodes c.requires.0 in
     let l = c.loop-i in
     let o = c.visit_held in (
-      o.ensures.0 ∙ (λ i. visited_of (f.sources_are i) (f.targets_are i) (n i + l.i) l.room),
-      subst (λ (q : List ℕ). Alike q o.new.0) (λ i. visited (f.sources_are i) (f.targets_are i) (n i + l.i) l.room) o.ensures.1,
+      o.ensures.value ∙ (λ i. visited_of (f.sources_are i) (f.targets_are i) (n i + l.i) l.room),
+      subst (λ (q : List ℕ). Alike q o.new.room) (λ i. visited (f.sources_are i) (f.targets_are i) (n i + l.i) l.room) o.ensures.alike,
     )
 
 pub body_row-r-requires : goal.body_row-r-requires
@@ -96,9 +96,9 @@ loop-i-preserved c =
     let long : room_cycle_breaking_nodes_scanning ≤ length l.room = omega (arith, c.requires.1, l.invariant.1) in
     let x = c.with-gone in (
       omega arith,
-      o.auto.0 ∙ l.invariant.1,
+      o.auto.room ∙ l.invariant.1,
       (read_3 c).next,
-      swept_next g (drawn c.requires.0) c.args.room.now l.room long l.i l.gone.all l.gone.edges (omega (arith, is_edges c.requires.0)) l.invariant.3 o.new.0 o.result x.result.all x.result.edges (omega (arith, o.auto.0)) w.1 w.0 x.ensures.0 x.ensures.1,
+      swept_next g (drawn c.requires.0) c.args.room.now l.room long l.i l.gone.all l.gone.edges (omega (arith, is_edges c.requires.0)) l.invariant.3 o.new.room o.result x.result.all x.result.edges (omega (arith, o.auto.room)) w.1 w.0 x.ensures.0 x.ensures.1,
     )
 
 pub returns : goal.returns

@@ -12,7 +12,7 @@ use Rattle.sweeps.proofs.Hints.{alike_is}
 use Rattle.sweeps.proofs.visit_held.Goals as goal
 
 pub is_held-requires : goal.is_held-requires
-is_held-requires c = let p = c.requires in record { holds = (p.0.0, p.0.1, p.0.3); below = p.1 }
+is_held-requires c = let p = c.requires in record { holds = (p.holds.0, p.holds.1, p.holds.3); below = p.below }
 
 pub returns-then-is_held : goal.returns-then-is_held
 returns-then-is_held c =
@@ -23,20 +23,20 @@ returns-then-is_held c =
     record { value = sym w.1; alike = alike_is (sym w.0) }
 
 pub visit-k-requires : goal.visit-k-requires
-visit-k-requires c = let p = c.requires in record { holds = (p.0.0, p.0.1, p.0.3); below = p.1 }
+visit-k-requires c = let p = c.requires in record { holds = (p.holds.0, p.holds.1, p.holds.3); below = p.below }
 
 pub returns-then-k-ne0 : goal.returns-then-k-ne0
 returns-then-k-ne0 c =
     let o = c.visit-k in
-    record { value = o.ensures.0; alike = alike_is o.ensures.1 }
+    record { value = o.ensures.value; alike = alike_is o.ensures.room_after }
 
 pub hold-requires : goal.hold-requires
 hold-requires c =
     let p = c.requires in
-    record { holds = (p.0.0, p.0.2, omega (arith, p.0.3, c.visit-k.auto.room)); below = p.1 }
+    record { holds = (p.holds.0, p.holds.2, omega (arith, p.holds.3, c.visit-k.auto.room)); below = p.below }
 
 pub returns : goal.returns
 returns c =
     let o = c.visit-k in
     let h = c.hold in
-    record { value = sym c.if-k-ne0.false ∙ o.ensures.0; alike = subst (λ (q : List ℕ). Alike q h.new.0) o.ensures.1 h.ensures }
+    record { value = sym c.if-k-ne0.false ∙ o.ensures.value; alike = subst (λ (q : List ℕ). Alike q h.new.room) o.ensures.room_after h.ensures }

@@ -21,45 +21,49 @@ use Rattle.parts.proofs.Billed.{priced_refused, priced_answered}
 use Rattle.price.proofs.range.add_drawing.Goals as goal
 use Rattle.price.proofs.range.add_drawing.Goals.{After-add_bill, After-add_refusal, After-bill-1, After-refusal-x}
 
+-- the room is lent
+lent : (c : After-refusal-x) → in_work_room room_price (length c.args.room.now) (spec.price c.args.src.now) ≡ spec.price c.args.src.now
+lent c = in_room room_price (length c.args.room.now) (spec.price c.args.src.now) c.requires.1
+
 -- the refusal
 short : (c : After-refusal-x) → spec.price c.args.src.now ≡ refused (meant_by c.refusal-x.result)
-short c =     let a = c.args in
+short c = let a = c.args in
     let r = c.price_drawing-priced in
     sym (lent c)
     ∙ priced_refused (in_work_room room_price (length a.room.now) (spec.price a.src.now)) r.result r.ensures c.refusal-x.result (passed_on c.in_default.is c.refusal-x.ensures)
+
+-- the room is lent
+lent_2 : (c : After-add_refusal) → in_work_room room_price (length c.args.room.now) (spec.price c.args.src.now) ≡ spec.price c.args.src.now
+lent_2 c = in_room room_price (length c.args.room.now) (spec.price c.args.src.now) c.requires.1
 
 -- the refusal
 short_2 : (c : After-add_refusal) → spec.price c.args.src.now ≡ refused (meant_by c.refusal-x.result)
-short_2 c =     let a = c.args in
+short_2 c = let a = c.args in
     let r = c.price_drawing-priced in
-    sym (lent c)
+    sym (lent_2 c)
     ∙ priced_refused (in_work_room room_price (length a.room.now) (spec.price a.src.now)) r.result r.ensures c.refusal-x.result (passed_on c.in_default.is c.refusal-x.ensures)
 
 -- the room is lent
-_ _ (c : After-bill-1) where
-  lent : in_work_room room_price (length c.args.room.now) (spec.price c.args.src.now) ≡ spec.price c.args.src.now
-  lent = in_room room_price (length c.args.room.now) (spec.price c.args.src.now) c.requires.1
-
+lent_3 : (c : After-bill-1) → in_work_room room_price (length c.args.room.now) (spec.price c.args.src.now) ≡ spec.price c.args.src.now
+lent_3 c = in_room room_price (length c.args.room.now) (spec.price c.args.src.now) c.requires.1
 
 -- the list
 found : (c : After-bill-1) → (p : Priced) × (spec.price c.args.src.now ≡ answered p) × (c.price_drawing-priced.result.bill ≡ bill_of p)
-found c =     let a = c.args in
+found c = let a = c.args in
     let r = c.price_drawing-priced in
     let f = priced_answered (in_work_room room_price (length a.room.now) (spec.price a.src.now)) r.result r.ensures _ c.in-Number.is in
-    (f.0, sym (lent c) ∙ f.1, f.2)
+    (f.0, sym (lent_3 c) ∙ f.1, f.2)
 
 -- the room is lent
-__2 __2 (c : After-add_bill) where
-  lent : in_work_room room_price (length c.args.room.now) (spec.price c.args.src.now) ≡ spec.price c.args.src.now
-  lent = in_room room_price (length c.args.room.now) (spec.price c.args.src.now) c.requires.1
-
+lent_4 : (c : After-add_bill) → in_work_room room_price (length c.args.room.now) (spec.price c.args.src.now) ≡ spec.price c.args.src.now
+lent_4 c = in_room room_price (length c.args.room.now) (spec.price c.args.src.now) c.requires.1
 
 -- the list
 found_2 : (c : After-add_bill) → (p : Priced) × (spec.price c.args.src.now ≡ answered p) × (c.price_drawing-priced.result.bill ≡ bill_of p)
-found_2 c =     let a = c.args in
+found_2 c = let a = c.args in
     let r = c.price_drawing-priced in
-    let f = priced_answered (in_work_room room_price (length a.room.now) (spec.price a.src.now)) r.result r.ensures __2 c.in-Number.is in
-    (f.0, sym (lent c) ∙ f.1, f.2)
+    let f = priced_answered (in_work_room room_price (length a.room.now) (spec.price a.src.now)) r.result r.ensures _ c.in-Number.is in
+    (f.0, sym (lent_4 c) ∙ f.1, f.2)
 
 pub add_refusal-requires : goal.add_refusal-requires
 add_refusal-requires c =

@@ -10,6 +10,15 @@ use Rattle.form.specs.Form.{numbered}
 use Rattle.form.specs.declared.Step.TheVariants as step
 use Rattle.catalogue.proofs.Slices.{first_short, first_past, first_whole}
 use Rattle.price.proofs.range.drawing_length.Goals as goal
+use Rattle.price.proofs.range.drawing_length.Goals.{Else-left-n, Then-left-n}
+
+-- what is left of the slice
+four : (c : Then-left-n) → 4 ≤ length (drop c.args.at c.args.src.now)
+four c = let a = c.args in omega (arith, length-drop a.at a.src.now)
+
+-- what is left of the slice
+four_2 : (c : Else-left-n) → 4 ≤ length (drop c.args.at c.args.src.now)
+four_2 c = let a = c.args in omega (arith, length-drop a.at a.src.now)
 
 pub returns-then-left-lt4 : goal.returns-then-left-lt4
 returns-then-left-lt4 c =
@@ -27,4 +36,4 @@ returns c =
     let a = c.args in
     let d = drop a.at a.src.now in
     let k = c.get4-n in
-    ap step.Number k.ensures ∙ sym (ap numbered (first_whole d (four c) (omega (arith, length-drop 4 d, length-drop a.at a.src.now, k.ensures))))
+    ap step.Number k.ensures ∙ sym (ap numbered (first_whole d (four_2 c) (omega (arith, length-drop 4 d, length-drop a.at a.src.now, k.ensures))))

@@ -73,7 +73,7 @@ loop-at-preserved c =
       subst (λ (n : ℕ). Sofar src forms a.result (l.at + 4 + n)) (sym g.ensures)
           (sofar_next (clean_4 c) c.requires.0 l.invariant.0 c.loop-at-test.true a.result
           (a.ensures ∙ ap (λ (n : ℕ). added l.t (price (take n (drop (l.at + 4) src)))) part)),
-      a.auto.1.1.0 ∙ l.invariant.1,
+      a.auto.room ∙ l.invariant.1,
     )
 
 pub returns : goal.returns

@@ -66,4 +66,4 @@ returns c =
     let a = c.args in
     let f = found_3 c in
     let p = c.put_report in
-    range_done a.src.now a.out.now p.new.0 (length a.room.now) f.0 f.1 (omega arith) _ f.2 p.ensures
+    range_done a.src.now a.out.now p.new.out (length a.room.now) f.0 f.1 (omega arith) _ f.2 p.ensures

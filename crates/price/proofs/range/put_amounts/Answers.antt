@@ -17,6 +17,6 @@ returns c =
     let mean = c.mean_of-mean in
     let third = c.put8-2 in
     let fourth = c.put4-2 in
-    amounts_put a.out.now first.new.0 second.new.0 third.new.0 fourth.new.0 a.t.sum index.result mean.result.whole mean.result.rest
+    amounts_put a.out.now first.new.d second.new.d third.new.d fourth.new.d a.t.sum index.result mean.result.whole mean.result.rest
     first.ensures second.ensures third.ensures fourth.ensures
     ∙ (λ i. sets a.out.now 124 (bytes 8 a.t.sum ++ (bytes 4 (index.ensures i) ++ (bytes 8 (mean.ensures i).whole ++ bytes 4 (mean.ensures i).rest))))

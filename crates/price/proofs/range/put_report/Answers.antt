@@ -10,4 +10,4 @@ returns c =
     let t = c.args.t in
     let first = c.put_totals in
     let second = c.put_amounts in
-    report_put c.args.out.now first.new.0 second.new.0 (front_of t) (amounts_of t) (front_long t c.requires.1.seventeen c.requires.1.twelve) first.ensures second.ensures
+    report_put c.args.out.now first.new.out second.new.out (front_of t) (amounts_of t) (front_long t c.requires.1.seventeen c.requires.1.twelve) first.ensures second.ensures

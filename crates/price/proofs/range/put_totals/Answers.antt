@@ -10,5 +10,5 @@ returns c =
     let second = c.put_row in
     let third = c.put_row-2 in
     let fourth = c.put4-2 in
-    totals_put c.args.out.now first.new.0 second.new.0 third.new.0 fourth.new.0 c.args.t.refusals c.args.t.parts c.args.t.priced c.args.t.buffers
+    totals_put c.args.out.now first.new.d second.new.out third.new.out fourth.new.d c.args.t.refusals c.args.t.parts c.args.t.priced c.args.t.buffers
     c.requires.1.seventeen c.requires.1.twelve first.ensures second.ensures third.ensures fourth.ensures
