@@ -87,10 +87,7 @@ add_edge-requires c =
     let r = c.body_row-body.result in
     let known : Below a.z.nodes (span b r e.first e.sources ++ span b r (e.first + e.sources) e.targets) = subst (Below a.z.nodes) (span_append b r e.first e.sources e.targets) m.ids_known in
     let held : Holds b r (e.first + e.sources + e.targets) = holds_less m.held _ (omega arith) in
-    rw y (
-      (D.sound, omega (arith, S.within.counts.edges, c.requires.stored.1), f, omega (arith, c.requires.stored.3)),
-      (held, below_front a.z.nodes (span b r e.first e.sources) (span b r (e.first + e.sources) e.targets) known, below_back a.z.nodes (span b r e.first e.sources) (span b r (e.first + e.sources) e.targets) known),
-    )
+    rw y (record { sound = (D.sound, omega (arith, S.within.counts.edges, c.requires.stored.1), f, omega (arith, c.requires.stored.3)); holds = (held, below_front a.z.nodes (span b r e.first e.sources) (span b r (e.first + e.sources) e.targets) known, below_back a.z.nodes (span b r e.first e.sources) (span b r (e.first + e.sources) e.targets) known) })
 
 pub returns : goal.returns
 returns c =

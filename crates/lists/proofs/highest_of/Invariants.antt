@@ -18,10 +18,10 @@ use Rattle.lists.proofs.highest_of.Given as goal
 
 -- k ids are looked at, and the place is that of the next
 pub record Looked (s : List ℕ) (at n width most place : ℕ) : Type 0 where
-  k : ℕ
-  few : k ≤ n
-  here : place ≡ at + k * width
-  found : most ≡ highest (span s (row_at at width) 0 k)
+  pub k : ℕ
+  pub few : k ≤ n
+  pub here : place ≡ at + k * width
+  pub found : most ≡ highest (span s (row_at at width) 0 k)
 
 abbrev pub invariant-loop-place : goal.invariant-loop-place
 invariant-loop-place l = Looked l.s l.at l.n l.width l.most l.place

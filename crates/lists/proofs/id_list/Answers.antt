@@ -24,6 +24,12 @@ whole c = record { wide = c.requires; inside = omega (arith, div-mul-le_self (le
 whole_2 : (c : Then-count-reach_of) → Holds c.args.ids.now (row_at 0 c.args.width) (length c.args.ids.now / c.args.width)
 whole_2 c = record { wide = c.requires; inside = omega (arith, div-mul-le_self (length c.args.ids.now) c.args.width) }
 
+pub nonzero_div-n : goal.nonzero_div-n
+nonzero_div-n c = let l = wide_some c.requires in omega arith
+
+pub nonzero_rem-ids : goal.nonzero_rem-ids
+nonzero_rem-ids c = let l = wide_some c.requires in omega arith
+
 pub returns-then-ids-width-ne0 : goal.returns-then-ids-width-ne0
 unfolding id_list ◌else◌ ◌>>◌
 returns-then-ids-width-ne0 c f same = rw (same, ne_eqb _ _ c.if-ids-width-ne0.true)

@@ -15,7 +15,7 @@ use Rattle.removal.proofs.Peeling.{lists_same}
 use Rattle.loops.specs.Walk.{next_in, Looping, LaidTo, LaidIn}
 use Rattle.loops.proofs.Laying.{Beside, next_same, laid_start, laid_low, laid_few, laid_next, laid_done}
 use Rattle.loops.proofs.lay_loop.Goals as goal
-use Rattle.loops.proofs.lay_loop.Goals.{After-slice_known-in-loop-v-1, Else-v-again, Then-v-again}
+use Rattle.loops.proofs.lay_loop.Goals.{After-set_word-arg-1, After-slice_known-in-loop-v-1, Else-v-again, Then-v-again}
 
 abbrev start : tie.At-loop invariant-loop decreases-loop → tie.Start invariant-loop decreases-loop
 start l = l.before.before.before
@@ -102,6 +102,21 @@ goes_2 c u = let a = (start c).args in
     ∙ next_same s W (words c.set_word.new.room) a.nodes u.n c.loop-v.v (stays_3 c) (omega (arith, length_words a.room.now)) u.few
     (laid_low s W a.nodes a.again u (words c.loop-v.room) c.loop-v.v c.loop-v.count (long_3 c) (c.loop-v.invariant.1 u)) u.lists
 
+-- what is laid so far, of the loop that the caller knows
+laid_4 : (c : After-set_word-arg-1) → LaidTo (words c.loop-v.room) ((start c).args.again ∷ (start c).requires.1.others) c.loop-v.v c.loop-v.count
+laid_4 c = c.loop-v.invariant.1 (start c).requires.1
+
+long_4 : (c : After-set_word-arg-1) → picked_at ≤ length (words c.loop-v.room)
+long_4 c = omega (arith, length_words c.loop-v.room, c.loop-v.invariant.2)
+
+few_4 : (c : After-set_word-arg-1) → c.loop-v.count < most_vertices
+few_4 c = let a = (start c).args in
+    laid_few (source a.s.now a.r) (words a.room.now) a.nodes a.again (start c).requires.1 (words c.loop-v.room) c.loop-v.v c.loop-v.count (long_4 c) (laid_4 c)
+
+low_2 : (c : After-set_word-arg-1) → c.loop-v.v < (start c).requires.1.n
+low_2 c = let a = (start c).args in
+    laid_low (source a.s.now a.r) (words a.room.now) a.nodes a.again (start c).requires.1 (words c.loop-v.room) c.loop-v.v c.loop-v.count (long_4 c) (laid_4 c)
+
 pub loop-v-init : goal.loop-v-init
 loop-v-init c =
     let a = c.args in
@@ -129,3 +144,18 @@ returns c =
     λ u.
     subst (λ (Z : List ℕ). LaidIn Z (a.again ∷ u.others) (c.loop-v.count + 1)) (sym c.set_word.ensures)
     (laid_done (source a.s.now a.r) (words a.room.now) a.nodes a.again u (words c.loop-v.room) c.loop-v.v c.loop-v.count (long_3 c) (c.loop-v.invariant.1 u) c.onward-v.result (goes_2 c u) c.if-v-again.true)
+
+pub overflow_add-count : goal.overflow_add-count
+overflow_add-count c = omega (arith, few_4 c)
+
+pub overflow_cast-v : goal.overflow_cast-v
+overflow_cast-v c = omega (arith, low_2 c, (start c).pre.1.few)
+
+pub set_word-requires : goal.set_word-requires
+set_word-requires c = omega (arith, few_4 c, c.loop-v.invariant.2)
+
+pub overflow_add-count-in-loop-v : goal.overflow_add-count-in-loop-v
+overflow_add-count-in-loop-v c = omega (arith, few c)
+
+pub loop-v-smaller : goal.loop-v-smaller
+loop-v-smaller c = omega (arith, few_2 c)

@@ -19,3 +19,6 @@ returns c =
     let a = c.args in
     let l = c.loop-v in
     l.invariant.2 ∙ ap (λ (k : ℕ). sets a.room.now 0 (replicate k 1)) (le_antisymm l.invariant.0 c.loop-v-test.false)
+
+pub bounds-room-v : goal.bounds-room-v
+bounds-room-v c = omega (arith, c.loop-v.invariant.1)

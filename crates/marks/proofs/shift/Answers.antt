@@ -11,4 +11,4 @@ unfolding shifted
 returns c =
     let a = c.args in
     c.put4.ensures
-    ∙ ap (λ (w : ℕ). sets a.room.now (4 * (degrees_at + a.v)) (bytes 4 w)) (c.wrapping_add_u32.ensures ∙ ap (λ (d : ℕ). (d + a.delta) % 2 ^ 32) c.word-w.ensures)
+    ∙ ap (λ (w : ℕ). sets a.room.now (4 * (degrees_at + a.v)) (bytes 4 w)) (c.wrapping_add_u32.ensures.value ∙ ap (λ (d : ℕ). (d + a.delta) % 2 ^ 32) c.word-w.ensures)

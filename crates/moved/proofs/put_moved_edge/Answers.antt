@@ -21,7 +21,7 @@ use Rattle.gone.proofs.Grows.{renamed_append, ids_grow}
 use borrow.Author.Rules.{rules}
 use native.Mathlib.Omega.{arith}
 use Rattle.moved.proofs.put_moved_edge.Goals as goal
-use Rattle.moved.proofs.put_moved_edge.Goals.{After-put_moved-arg-1, After-put_two-arg-1, After-slice_known-2-1, After-struct_known-1, Joined-i-e}
+use Rattle.moved.proofs.put_moved_edge.Goals.{After-body_row-body, After-put_moved-arg-1, After-put_two-arg-1, After-slice_known-2-1, After-struct_known-1, Joined-i-e}
 
 -- the new ids of the first n, of the sources and of the targets
 abbrev ids : After-struct_known-1 → ℕ → List ℕ
@@ -103,6 +103,22 @@ middle_2 c = c.loop-i.invariant.1 (omega arith)
 end_2 : (c : After-slice_known-2-1) → c.loop-i.end ≡ c.loop-i.middle + length (targets_3 c)
 end_2 c = omega (arith, all_2.next, middle_2, ap length (lists_3 c), length-append (ids_5 c c.args.e.sources) (targets_3 c))
 
+-- the new ids of the first n, of the sources and of the targets
+abbrev ids_6 : After-body_row-body → ℕ → List ℕ
+ids_6 c n = renamed (gone_in c.args.z c.args.map.now) (span c.args.src.now (body_of c.args.z) c.args.e.first n)
+
+abbrev targets_4 : After-body_row-body → List ℕ
+targets_4 c = renamed (gone_in c.args.z c.args.map.now) (edge_of c.args.src.now c.args.z c.args.e).targets
+
+lists_4 : (c : After-body_row-body) → ids_6 c (c.args.e.sources + c.args.e.targets) ≡ ids_6 c c.args.e.sources ++ targets_4 c
+lists_4 c = let a = c.args in
+    let goes = gone_in a.z a.map.now in
+    ap (renamed goes) (span_append a.src.now (body_of a.z) a.e.first a.e.sources a.e.targets) ∙ renamed_append goes (edge_of a.src.now a.z a.e).sources (edge_of a.src.now a.z a.e).targets
+
+-- room for both counts and both lists
+room_3 : (c : After-body_row-body) → Holds c.args.out.now c.args.to (c.args.j + 2 + length (ids_6 c (c.args.e.sources + c.args.e.targets)))
+room_3 c = holds_less c.requires.targets_bound.1 _ (omega (arith, ap length (lists_4 c)))
+
 pub loop-i-init : goal.loop-i-init
 unfolding span
 loop-i-init c = (omega arith, (λ l. let e : c.args.e.sources ≡ 0 = omega arith in omega (arith, ap (λ (n : ℕ). length (ids c n)) e)), put_none)
@@ -158,3 +174,24 @@ returns c =
           ∙ counts_last a.out.now a.to a.j (length first) (length (targets_3 c)) (first ++ targets_3 c);
       next = omega (arith, middle_2 c, end_2 c, length-append first (targets_3 c));
     }
+
+pub overflow_add-middle : goal.overflow_add-middle
+overflow_add-middle c = omega (arith, holds_index (room_3 c))
+
+pub overflow_add-end : goal.overflow_add-end
+overflow_add-end c = omega (arith, holds_index (room_3 c))
+
+pub overflow_add-e : goal.overflow_add-e
+overflow_add-e c = omega (arith, holds_index c.requires.mapped.1)
+
+pub number-id-requires : goal.number-id-requires
+number-id-requires c = at_row c.body_row-body.ensures (holds_less c.requires.mapped.1 _ (omega arith))
+
+pub overflow_add-j : goal.overflow_add-j
+overflow_add-j c = omega (arith, holds_index (room_2 c))
+
+pub overflow_sub-middle : goal.overflow_sub-middle
+overflow_sub-middle c = omega (arith, middle c)
+
+pub overflow_sub-end : goal.overflow_sub-end
+overflow_sub-end c = omega (arith, end c)

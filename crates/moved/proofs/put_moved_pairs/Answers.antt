@@ -43,3 +43,9 @@ returns c =
     let l = c.loop-i in
     subst (λ (i : ℕ). Put a.out.now a.to a.first (flat (renamed_pairs (gone_in a.z a.map.now) (paired (span a.src.now (body_of a.z) a.k (2 * i))))) l.out l.j)
     (le_antisymm l.invariant.0 c.loop-i-test.false) l.invariant.1
+
+pub overflow_mul-i : goal.overflow_mul-i
+overflow_mul-i c = omega (arith, holds_index c.requires.1)
+
+pub overflow_add-k : goal.overflow_add-k
+overflow_add-k c = omega (arith, holds_index c.requires.1)

@@ -12,13 +12,16 @@ use Rattle.once_fed.proofs.mark.Goals as goal
 pub returns : goal.returns
 returns c = record { value = rw (ne_eqb _ _ c.if-marks-way-eq1.false); room_after = refl }
 
+pub nonzero_div-marks : goal.nonzero_div-marks
+nonzero_div-marks c = ⊎_elim (λ (e : c.args.way ≡ 1). omega arith) (λ (e : c.args.way ≡ 2). omega arith) c.requires.1
+
 pub returns-then-marks-way-eq1 : goal.returns-then-marks-way-eq1
 returns-then-marks-way-eq1 c = record { value = rw (eq-eqb _ _ c.if-marks-way-eq1.true); room_after = refl }
 
 pub overflow_add-room : goal.overflow_add-room
 overflow_add-room c =
     let a = c.args in
-    let b : get_or a.room.now a.id 0 < 256 = omega (arith, c.type_inv.room a.id) in
+    let b : get_or a.room.now a.id 0 < 256 = omega (arith, c.slice_known-1.given a.id) in
     ⊎_elim
     (λ (e : a.way ≡ 1).
     let h : get_or a.room.now a.id 0 / 1 % 2 ≡ 1 → ⊥ = subst (λ (k : ℕ). get_or a.room.now a.id 0 / k % 2 ≡ 1 → ⊥) e c.if-marks-way-eq1.false in

@@ -23,3 +23,6 @@ returns c =
       larger_key (words a.room.now) a.base a.n a.i up.result most.result
           (λ h. (up.ensures.0 (omega (arith, left, right)), most.ensures.0 (omega (arith, left, right)) ∙ right)) (λ h. (up.ensures.1 (omega (arith, left, right)), most.ensures.1 (omega (arith, left, right)) ∙ left)),
     )
+
+pub overflow_add-result : goal.overflow_add-result
+overflow_add-result c = omega (arith, c.is_above.ensures.2)

@@ -10,11 +10,15 @@ use Rattle.write.proofs.Results.{put_none}
 use borrow.Author.Rules.{rules}
 use native.Mathlib.Omega.{arith}
 use Rattle.quotient.proofs.put_class_label.Goals as goal
-use Rattle.quotient.proofs.put_class_label.Goals.{After-slice_known-2-1}
+use Rattle.quotient.proofs.put_class_label.Goals.{After-number, After-slice_known-2-1}
 
 -- the class is the next one, and there is room for its label
 fits : (c : After-slice_known-2-1) → Holds c.args.out.now c.args.to (c.args.j + 1)
 fits c = rw (eq-eqb _ _ (sym c.word-class.ensures ∙ c.if-class-j.false)) at c.requires.2
+
+-- the class is the next one, and there is room for its label
+fits_2 : (c : After-number) → Holds c.args.out.now c.args.to (c.args.j + 1)
+fits_2 c = rw (eq-eqb _ _ (sym c.word-class.ensures ∙ c.if-class-j.false)) at c.requires.2
 
 pub returns-then-class-j : goal.returns-then-class-j
 returns-then-class-j c = rw (ne_eqb _ _ (λ q. c.if-class-j.true (c.word-class.ensures ∙ q))) put_none
@@ -27,3 +31,6 @@ returns c =
     let a = c.args in
     rw (eq-eqb _ _ (sym c.word-class.ensures ∙ c.if-class-j.false))
     (record { stored = c.put_number.ensures ∙ ap (λ (v : ℕ). puts a.out.now a.to a.j (v ∷ [])) c.number.ensures.0; next = refl })
+
+pub put_number-requires : goal.put_number-requires
+put_number-requires c = (fits_2 c, c.number.ensures.1)

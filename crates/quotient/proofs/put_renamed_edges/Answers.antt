@@ -103,3 +103,6 @@ returns c =
       l.invariant.1 ∙ ap (λ (es : List Edge). length (joined edge_row es)) all ∙ edges_end c.requires.0.stored,
       subst (λ (es : List Edge). Put c.args.out.now c.args.to 0 (joined edge_row (map (looked_edge (words c.args.room.now)) es)) l.out l.k) all l.invariant.2,
     )
+
+pub loop-i-smaller : goal.loop-i-smaller
+loop-i-smaller c = omega (arith, c.loop-i-test.true, (stored_rows c.requires.0.stored).low.edges)

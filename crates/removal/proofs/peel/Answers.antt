@@ -11,7 +11,7 @@ use Rattle.tables.specs.Tables.{picked_at}
 use Rattle.removal.specs.Room.{source, Lists}
 use Rattle.removal.proofs.Peeling.{Peeling, low_listed, low_formed, went_listed, went_formed, lists_steady, peeling_start, next_low, peeling_turn, peeling_done}
 use Rattle.removal.proofs.peel.Goals as goal
-use Rattle.removal.proofs.peel.Goals.{After-loop-first, After-lower_formed-arg-1, After-lower_listed-arg-1, After-shared_slice_known-1, After-slice_known-else-y-nodes-1, After-slice_known-then-y-nodes-1}
+use Rattle.removal.proofs.peel.Goals.{After-loop-first, After-lower_formed-arg-1, After-lower_listed-arg-1, After-shared_slice_known-1, After-slice_known-else-y-nodes-1, After-slice_known-then-y-nodes-1, After-word-start, After-word-y}
 
 long : (c : After-shared_slice_known-1) → picked_at ≤ length (words c.args.room.now)
 long c = omega (arith, length_words c.args.room.now)
@@ -52,6 +52,24 @@ long_5 c = omega (arith, length_words c.args.room.now)
 
 long_6 : (c : After-loop-first) → picked_at ≤ length (words c.args.room.now)
 long_6 c = omega (arith, length_words c.args.room.now)
+
+long_7 : (c : After-word-y) → picked_at ≤ length (words c.args.room.now)
+long_7 c = omega (arith, length_words c.args.room.now)
+
+-- the half that is read is one of n vertices
+half_low_3 : (c : After-word-y) → c.word-y.result < 2 * c.args.n
+half_low_3 c = let a = c.args in
+    let l = c.loop-first in
+    omega (arith, c.word-y.ensures, next_low (source a.s.now a.r) (words a.room.now) a.nodes a.n a.from a.end (omega arith) (long_7 c) (words l.room) l.first l.last l.invariant.0 (omega arith))
+
+long_8 : (c : After-word-start) → picked_at ≤ length (words c.args.room.now)
+long_8 c = omega (arith, length_words c.args.room.now)
+
+-- the half that is read is one of n vertices
+half_low_4 : (c : After-word-start) → c.word-y.result < 2 * c.args.n
+half_low_4 c = let a = c.args in
+    let l = c.loop-first in
+    omega (arith, c.word-y.ensures, next_low (source a.s.now a.r) (words a.room.now) a.nodes a.n a.from a.end (omega arith) (long_8 c) (words l.room) l.first l.last l.invariant.0 (omega arith))
 
 pub loop-first-init : goal.loop-first-init
 loop-first-init c =
@@ -124,3 +142,24 @@ returns c =
     let a = c.args in
     let l = c.loop-first in
     peeling_done (source a.s.now a.r) (words a.room.now) a.nodes a.n a.from a.end (omega arith) (long_6 c) (words l.room) l.first l.last l.invariant.0 (omega arith)
+
+pub overflow_mul-y : goal.overflow_mul-y
+overflow_mul-y c = omega (arith, half_low_3 c)
+
+pub overflow_add-y : goal.overflow_add-y
+overflow_add-y c = omega (arith, half_low_3 c)
+
+pub word-start-requires : goal.word-start-requires
+word-start-requires c = omega (arith, half_low_3 c)
+
+pub overflow_mul-y-in-loop-first : goal.overflow_mul-y-in-loop-first
+overflow_mul-y-in-loop-first c = omega (arith, half_low_4 c)
+
+pub overflow_add-y-in-loop-first : goal.overflow_add-y-in-loop-first
+overflow_add-y-in-loop-first c = omega (arith, half_low_4 c)
+
+pub overflow_add-y-in-loop-first-2 : goal.overflow_add-y-in-loop-first-2
+overflow_add-y-in-loop-first-2 c = omega (arith, half_low_4 c)
+
+pub word-count-requires : goal.word-count-requires
+word-count-requires c = omega (arith, half_low_4 c)

@@ -13,7 +13,7 @@ use Rattle.form.proofs.Stored.{unread, stored_bytes}
 use Rattle.write.proofs.Calls.{graph_unread, Ends, graph_ends}
 use Rattle.rewrite.proofs.Ways.{read_again}
 use Rattle.rewrite.proofs.rewrite.Goals as goal
-use Rattle.rewrite.proofs.rewrite.Goals.{After-put_graph-arg-1}
+use Rattle.rewrite.proofs.rewrite.Goals.{After-put_graph-arg-1, After-refusal-in_default-fit, After-slice_known-2-1}
 
 -- the form that was read, and the sizes in which it is written
 form : (c : After-put_graph-arg-1) → Stored c.args.src.now c.in-Sized.z
@@ -23,6 +23,24 @@ ends : (c : After-put_graph-arg-1) → Ends (on_graph c.args.src.now (length c.a
 ends c = let a = c.args in
     let w = read_again (form c) c.sized-y.ensures in
     graph_ends a.out.now _ 0 w.1 c.result_size-fit.ensures a.src.now (λ (f : Format). rewrite_step) (form c) w.0
+
+-- the form that was read, and the sizes in which it is written
+form_2 : (c : After-refusal-in_default-fit) → Stored c.args.src.now c.in-Sized.z
+form_2 c = stored_bytes c.read-graph.ensures c.type_inv.src c.in-Sized.is
+
+ends_2 : (c : After-refusal-in_default-fit) → Ends (on_graph c.args.src.now (length c.args.out.now) (λ (f : Format). rewrite_step)) c.args.out.now c.sized-y.result c.result_size-fit.result (graph_of c.args.src.now) 0
+ends_2 c = let a = c.args in
+    let w = read_again (form_2 c) c.sized-y.ensures in
+    graph_ends a.out.now _ 0 w.1 c.result_size-fit.ensures a.src.now (λ (f : Format). rewrite_step) (form_2 c) w.0
+
+-- the form that was read, and the sizes in which it is written
+form_3 : (c : After-slice_known-2-1) → Stored c.args.src.now c.in-Sized.z
+form_3 c = stored_bytes c.read-graph.ensures c.type_inv.src c.in-Sized.is
+
+ends_3 : (c : After-slice_known-2-1) → Ends (on_graph c.args.src.now (length c.args.out.now) (λ (f : Format). rewrite_step)) c.args.out.now c.sized-y.result c.result_size-fit.result (graph_of c.args.src.now) 0
+ends_3 c = let a = c.args in
+    let w = read_again (form_3 c) c.sized-y.ensures in
+    graph_ends a.out.now _ 0 w.1 c.result_size-fit.ensures a.src.now (λ (f : Format). rewrite_step) (form_3 c) w.0
 
 pub returns-in_default : goal.returns-in_default
 returns-in_default c =
@@ -37,3 +55,9 @@ pub put_graph-requires : goal.put_graph-requires
 put_graph-requires c =
     let y = c.sized-y.ensures in
     (form c, (ends c).room c.in-Number.is, ap counts_of y, ap (λ (z : Sizes). z.ports) y)
+
+pub returns-in_default-fit : goal.returns-in_default-fit
+returns-in_default-fit c = (ends_2 c).refuses c.in_default-fit.is c.refusal-in_default-fit.ensures
+
+pub returns : goal.returns
+returns c = (ends_3 c).done c.in-Number.is c.put_graph.ensures

@@ -118,7 +118,7 @@ returns-then-not-listed c =
     let x = c.number-id.result in
     let W = cells a.room.now in
     let e : is_listed a.nodes W x ≡ false = sym (c.listed.ensures a.nodes (known_2 c)) ∙ not-true _ c.if-not-listed.true-raw in
-    let bytes : Below 256 a.out.now = below_each 256 a.out.now (λ i l. omega (arith, c.type_inv.out i)) in
+    let bytes : Below 256 a.out.now = below_each 256 a.out.now (λ i l. omega (arith, c.slice_known-2-1.given i)) in
     let there : puts a.out.now (body_of a.y) a.k (x ∷ []) ≡ a.out.now = ap (puts a.out.now (body_of a.y) a.k) (sym (read c)) ∙ puts_there a.out.now (body_of a.y) a.k 1 bytes c.requires.0.ids.held in
     rw (read c)
     (pass_plain a.nodes a.kind a.next x W (labels_in a.out.now a.y a.nodes) a.y (omega (arith, c.requires.0.numbered.labels)) a.out.now _ a.k e (sym there))

@@ -22,3 +22,6 @@ loop-v-preserved c =
 
 pub returns : goal.returns
 returns c = let l = c.loop-v in subst (λ (k : ℕ). Top c.args.room.now k l.best) (le_antisymm l.invariant.0 c.loop-v-test.false) l.invariant.1
+
+pub better-best-requires : goal.better-best-requires
+better-best-requires c = tt
