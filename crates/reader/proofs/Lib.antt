@@ -1,3 +1,0 @@
--- What a reader owns and how it is lent.
-mod Held
-mod Lent
