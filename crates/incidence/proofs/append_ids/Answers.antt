@@ -23,34 +23,14 @@ pub append_some-requires : goal.append_some-requires
 append_some-requires c =
     let a = c.args in
     let some : 0 < a.count = omega (arith, c.if-count-eq0.false) in
-    let q = source a.src.now a.r in record {
-      holds = (holds_less c.requires.holds.0 _ (omega arith), omega arith, omega arith, omega arith);
-      all_low = (
-        λ y m. c.requires.all_low.0 y (in_first q a.first a.count a.side some y (subst (λ (k : ℕ). In y (form_list q k 1 a.side)) (add-zero a.first) m)),
-        subst (λ (k : ℕ). Fits (form_list q k 1 a.side) 1 a.t (words a.room.now)) (sym (add-zero a.first)) (fits_first q a.first a.count a.side some a.t (words a.room.now) c.requires.all_low.1),
-      ).0;
-      by_index = (
-        λ y m. c.requires.all_low.0 y (in_first q a.first a.count a.side some y (subst (λ (k : ℕ). In y (form_list q k 1 a.side)) (add-zero a.first) m)),
-        subst (λ (k : ℕ). Fits (form_list q k 1 a.side) 1 a.t (words a.room.now)) (sym (add-zero a.first)) (fits_first q a.first a.count a.side some a.t (words a.room.now) c.requires.all_low.1),
-      ).1;
-    }
+    let q = source a.src.now a.r in record { holds = (holds_less c.requires.holds.0 _ (omega arith), omega arith, omega arith, omega arith); all_low = λ y m. c.requires.all_low y (in_first q a.first a.count a.side some y (subst (λ (k : ℕ). In y (form_list q k 1 a.side)) (add-zero a.first) m)); by_index = subst (λ (k : ℕ). Fits (form_list q k 1 a.side) 1 a.t (words a.room.now)) (sym (add-zero a.first)) (fits_first q a.first a.count a.side some a.t (words a.room.now) c.requires.by_index) }
 
 pub append_some-requires-2 : goal.append_some-requires-2
 append_some-requires-2 c =
     let a = c.args in
     let o = c.append_some in
     let some : 0 < a.count = omega (arith, c.if-count-eq0.false) in
-    let q = source a.src.now a.r in record {
-      holds = (holds_less c.requires.holds.0 _ (omega arith), omega arith, omega arith, omega (arith, o.auto.room));
-      all_low = (
-        λ y m. c.requires.all_low.0 y (in_rest q a.first a.count a.side some y m),
-        subst (λ (X : List ℕ). Fits (form_list q (a.first + 1) (a.count - 1) a.side) (a.count - 1) a.t X) (sym (o.ensures ∙ ap (λ (k : ℕ). appended_all (form_list q k 1 a.side) a.t (words a.room.now)) (add-zero a.first))) (fits_rest q a.first a.count a.side some a.t (words a.room.now) c.requires.all_low.1),
-      ).0;
-      by_index = (
-        λ y m. c.requires.all_low.0 y (in_rest q a.first a.count a.side some y m),
-        subst (λ (X : List ℕ). Fits (form_list q (a.first + 1) (a.count - 1) a.side) (a.count - 1) a.t X) (sym (o.ensures ∙ ap (λ (k : ℕ). appended_all (form_list q k 1 a.side) a.t (words a.room.now)) (add-zero a.first))) (fits_rest q a.first a.count a.side some a.t (words a.room.now) c.requires.all_low.1),
-      ).1;
-    }
+    let q = source a.src.now a.r in record { holds = (holds_less c.requires.holds.0 _ (omega arith), omega arith, omega arith, omega (arith, o.auto.room)); all_low = λ y m. c.requires.all_low y (in_rest q a.first a.count a.side some y m); by_index = subst (λ (X : List ℕ). Fits (form_list q (a.first + 1) (a.count - 1) a.side) (a.count - 1) a.t X) (sym (o.ensures ∙ ap (λ (k : ℕ). appended_all (form_list q k 1 a.side) a.t (words a.room.now)) (add-zero a.first))) (fits_rest q a.first a.count a.side some a.t (words a.room.now) c.requires.by_index) }
 
 pub returns : goal.returns
 returns c =

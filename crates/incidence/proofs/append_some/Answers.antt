@@ -30,7 +30,7 @@ low : (c : After-append-arg-1) → 2 * c.number-id.result + c.args.side < lists_
 low c = let a = c.args in
     let ys = form_list (source a.src.now a.r) (a.first + a.from) (a.to - a.from) a.side in
     let l = c.loop-j in
-    omega (arith, next c, c.requires.all_low.0 (get_or ys (l.j - a.from) 0) (in_get_d ys (l.j - a.from) (omega (arith, l.invariant.0, formed_length (source a.src.now a.r) (a.first + a.from) (a.to - a.from) a.side))))
+    omega (arith, next c, c.requires.all_low (get_or ys (l.j - a.from) 0) (in_get_d ys (l.j - a.from) (omega (arith, l.invariant.0, formed_length (source a.src.now a.r) (a.first + a.from) (a.to - a.from) a.side))))
 
 -- what was read is the list's entry
 next_2 : (c : After-slice_known-in-loop-j-1) → let a = c.args in
@@ -68,7 +68,7 @@ append-requires c =
     let n = next c in
     let e : start_of (words l.room) (2 * c.number-id.result + a.side) + count_of (words l.room) (2 * c.number-id.result + a.side)
     ≡ start_of W (get_or ys (l.j - a.from) 0) + count_of W (get_or ys (l.j - a.from) 0) = λ i. start_of (l.invariant.2 i) (n i) + count_of (l.invariant.2 i) (n i) in
-    (low c, omega arith, omega (arith, e, c.requires.all_low.1 (l.j - a.from) (omega (arith, l.invariant.0))))
+    (low c, omega arith, omega (arith, e, c.requires.by_index (l.j - a.from) (omega (arith, l.invariant.0))))
 
 pub loop-j-preserved : goal.loop-j-preserved
 loop-j-preserved c =

@@ -144,7 +144,7 @@ count_ids-requires c =
     let e = c.edge_at-e.result in
     let row = c.body_row-r.ensures in
     let f = facts c.requires.stored.0 in
-    let low = sources_low c.requires.stored.0 a.i a.k c.requires.stored.1 e E _ row 1 (omega arith) in record { holds = (sources_held c.requires.stored.0 a.i a.k c.requires.stored.1 e E _ row, omega arith, omega arith); all_low = (λ t m. omega (arith, low t m, f.few), λ y m. omega (arith, few c y (low y m), E.inside, f.few)).0; by_index = (λ t m. omega (arith, low t m, f.few), λ y m. omega (arith, few c y (low y m), E.inside, f.few)).1 }
+    let low = sources_low c.requires.stored.0 a.i a.k c.requires.stored.1 e E _ row 1 (omega arith) in record { holds = (sources_held c.requires.stored.0 a.i a.k c.requires.stored.1 e E _ row, omega arith, omega arith); all_low = λ t m. omega (arith, low t m, f.few); by_index = λ y m. omega (arith, few c y (low y m), E.inside, f.few) }
 
 pub overflow_add-e-2 : goal.overflow_add-e-2
 overflow_add-e-2 c = let r = read_4 c in let f = facts c.requires.stored.0 in omega (arith, r.inside, f.few)
@@ -161,32 +161,17 @@ count_ids-requires-2 c =
     let W = words c.note-2.new.room in
     let ys = form_list (source a.src.now c.body_row-r.result) e.first e.sources 1 in record {
       holds = (targets_held c.requires.stored.0 a.i a.k c.requires.stored.1 e E _ row, omega arith, omega (arith, o.auto.room, c.note-2.auto.room, c.note.auto.room));
-      all_low = (
-        λ t m. omega (arith, low t m, f.few),
-        λ y m. omega (
-          arith,
-          few_2 c y (low y m),
-          ap (λ (X : List ℕ). get_or X y 0) o.ensures,
-          bump_at ys W y (omega (arith, low y m, f.few, length_words c.note-2.new.room, c.note-2.auto.room, c.note.auto.room)),
-          how_many_length (λ t. eqb t y) ys,
-          formed_length (source a.src.now c.body_row-r.result) e.first e.sources 1,
-          E.inside,
-          f.few,
-        ),
-      ).0;
-      by_index = (
-        λ t m. omega (arith, low t m, f.few),
-        λ y m. omega (
-          arith,
-          few_2 c y (low y m),
-          ap (λ (X : List ℕ). get_or X y 0) o.ensures,
-          bump_at ys W y (omega (arith, low y m, f.few, length_words c.note-2.new.room, c.note-2.auto.room, c.note.auto.room)),
-          how_many_length (λ t. eqb t y) ys,
-          formed_length (source a.src.now c.body_row-r.result) e.first e.sources 1,
-          E.inside,
-          f.few,
-        ),
-      ).1;
+      all_low = λ t m. omega (arith, low t m, f.few);
+      by_index = λ y m. omega (
+        arith,
+        few_2 c y (low y m),
+        ap (λ (X : List ℕ). get_or X y 0) o.ensures,
+        bump_at ys W y (omega (arith, low y m, f.few, length_words c.note-2.new.room, c.note-2.auto.room, c.note.auto.room)),
+        how_many_length (λ t. eqb t y) ys,
+        formed_length (source a.src.now c.body_row-r.result) e.first e.sources 1,
+        E.inside,
+        f.few,
+      );
     }
 
 pub returns : goal.returns

@@ -27,7 +27,7 @@ count_some-requires c =
     let some : 0 < a.count = omega (arith, c.if-count-eq0.false) in
     let q = source a.src.now a.r in
     let inside : (y : ℕ) → In y (form_list q (a.first + 0) 1 a.side) → In y (form_list q a.first a.count a.side) =
-    λ y m. in_first q a.first a.count a.side some y (subst (λ (k : ℕ). In y (form_list q k 1 a.side)) (add-zero a.first) m) in record { holds = (holds_less c.requires.holds.0 _ (omega arith), omega arith, omega arith, omega arith); all_low = (λ y m. c.requires.all_low.0 y (inside y m), λ y m. omega (arith, c.requires.all_low.1 y (inside y m))).0; by_index = (λ y m. c.requires.all_low.0 y (inside y m), λ y m. omega (arith, c.requires.all_low.1 y (inside y m))).1 }
+    λ y m. in_first q a.first a.count a.side some y (subst (λ (k : ℕ). In y (form_list q k 1 a.side)) (add-zero a.first) m) in record { holds = (holds_less c.requires.holds.0 _ (omega arith), omega arith, omega arith, omega arith); all_low = λ y m. c.requires.all_low y (inside y m); by_index = λ y m. omega (arith, c.requires.by_index y (inside y m)) }
 
 pub count_some-requires-2 : goal.count_some-requires-2
 count_some-requires-2 c =
@@ -37,24 +37,13 @@ count_some-requires-2 c =
     let q = source a.src.now a.r in
     let inside = in_rest q a.first a.count a.side some in record {
       holds = (holds_less c.requires.holds.0 _ (omega arith), omega arith, omega arith, omega (arith, o.auto.room));
-      all_low = (
-        λ y m. c.requires.all_low.0 y (inside y m),
-        λ y m. omega (
-          arith,
-          ap (λ (X : List ℕ). get_or X y 0) (o.ensures ∙ ap (λ (k : ℕ). bump_all (form_list q k 1 a.side) (words a.room.now)) (add-zero a.first)),
-          bump_first q a.first a.count a.side some (words a.room.now) y (omega (arith, c.requires.all_low.0 y (inside y m), length_words a.room.now)),
-          c.requires.all_low.1 y (inside y m),
-        ),
-      ).0;
-      by_index = (
-        λ y m. c.requires.all_low.0 y (inside y m),
-        λ y m. omega (
-          arith,
-          ap (λ (X : List ℕ). get_or X y 0) (o.ensures ∙ ap (λ (k : ℕ). bump_all (form_list q k 1 a.side) (words a.room.now)) (add-zero a.first)),
-          bump_first q a.first a.count a.side some (words a.room.now) y (omega (arith, c.requires.all_low.0 y (inside y m), length_words a.room.now)),
-          c.requires.all_low.1 y (inside y m),
-        ),
-      ).1;
+      all_low = λ y m. c.requires.all_low y (inside y m);
+      by_index = λ y m. omega (
+        arith,
+        ap (λ (X : List ℕ). get_or X y 0) (o.ensures ∙ ap (λ (k : ℕ). bump_all (form_list q k 1 a.side) (words a.room.now)) (add-zero a.first)),
+        bump_first q a.first a.count a.side some (words a.room.now) y (omega (arith, c.requires.all_low y (inside y m), length_words a.room.now)),
+        c.requires.by_index y (inside y m),
+      );
     }
 
 pub returns : goal.returns

@@ -31,7 +31,7 @@ low : (c : After-number-id) → 2 * c.number-id.result + c.args.side < lists_at
 low c = let a = c.args in
     let ys = form_list (source a.src.now a.r) (a.first + a.from) (a.to - a.from) a.side in
     let l = c.loop-j in
-    omega (arith, next c, c.requires.all_low.0 (get_or ys (l.j - a.from) 0) (in_get_d ys (l.j - a.from) (omega (arith, l.invariant.0, formed_length (source a.src.now a.r) (a.first + a.from) (a.to - a.from) a.side))))
+    omega (arith, next c, c.requires.all_low (get_or ys (l.j - a.from) 0) (in_get_d ys (l.j - a.from) (omega (arith, l.invariant.0, formed_length (source a.src.now a.r) (a.first + a.from) (a.to - a.from) a.side))))
 
 -- what was read is the list's entry
 next_2 : (c : After-set_word-arg-1) → let a = c.args in
@@ -51,7 +51,7 @@ low_2 : (c : After-set_word-arg-1) → 2 * c.number-id.result + c.args.side < li
 low_2 c = let a = c.args in
     let ys = form_list (source a.src.now a.r) (a.first + a.from) (a.to - a.from) a.side in
     let l = c.loop-j in
-    omega (arith, next_2 c, c.requires.all_low.0 (get_or ys (l.j - a.from) 0) (in_get_d ys (l.j - a.from) (omega (arith, l.invariant.0, formed_length (source a.src.now a.r) (a.first + a.from) (a.to - a.from) a.side))))
+    omega (arith, next_2 c, c.requires.all_low (get_or ys (l.j - a.from) 0) (in_get_d ys (l.j - a.from) (omega (arith, l.invariant.0, formed_length (source a.src.now a.r) (a.first + a.from) (a.to - a.from) a.side))))
 
 -- what was read is the list's entry
 next_3 : (c : After-slice_known-in-loop-j-1) → let a = c.args in
@@ -95,7 +95,7 @@ overflow_add-d c =
     let ys = form_list (source a.src.now a.r) (a.first + a.from) (a.to - a.from) a.side in
     let long : l.j - a.from < length ys = omega (arith, l.invariant.0, formed_length (source a.src.now a.r) (a.first + a.from) (a.to - a.from) a.side) in
     let at = in_get_d ys (l.j - a.from) long in
-    omega (arith, value c, bump_few ys (words a.room.now) (l.j - a.from) (omega (arith, c.requires.all_low.0 (get_or ys (l.j - a.from) 0) at, length_words a.room.now)), c.requires.all_low.1 (get_or ys (l.j - a.from) 0) at, l.invariant.0)
+    omega (arith, value c, bump_few ys (words a.room.now) (l.j - a.from) (omega (arith, c.requires.all_low (get_or ys (l.j - a.from) 0) at, length_words a.room.now)), c.requires.by_index (get_or ys (l.j - a.from) 0) at, l.invariant.0)
 
 pub set_word-requires : goal.set_word-requires
 set_word-requires c = omega (arith, low_2 c)

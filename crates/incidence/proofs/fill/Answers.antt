@@ -75,7 +75,7 @@ append_ids-requires c =
     let e = c.edge_at-e.result in
     let row = c.body_row-r.ensures in
     let f = facts c.requires.stored.0 in
-    let low = sources_low c.requires.stored.0 l.i l.k (omega arith) e E _ row 0 (omega arith) in record { holds = (sources_held c.requires.stored.0 l.i l.k (omega arith) e E _ row, omega arith, omega (arith, l.invariant.3)); all_low = (λ t m. omega (arith, low t m, f.few), sources_inside c.requires.stored.0 l.i l.k (omega arith) e E _ row (words a.room.now) (words l.room) (omega (arith, length_words a.room.now)) c.requires.empty l.invariant.2 _ refl).0; by_index = (λ t m. omega (arith, low t m, f.few), sources_inside c.requires.stored.0 l.i l.k (omega arith) e E _ row (words a.room.now) (words l.room) (omega (arith, length_words a.room.now)) c.requires.empty l.invariant.2 _ refl).1 }
+    let low = sources_low c.requires.stored.0 l.i l.k (omega arith) e E _ row 0 (omega arith) in record { holds = (sources_held c.requires.stored.0 l.i l.k (omega arith) e E _ row, omega arith, omega (arith, l.invariant.3)); all_low = λ t m. omega (arith, low t m, f.few); by_index = sources_inside c.requires.stored.0 l.i l.k (omega arith) e E _ row (words a.room.now) (words l.room) (omega (arith, length_words a.room.now)) c.requires.empty l.invariant.2 _ refl }
 
 pub overflow_add-e : goal.overflow_add-e
 overflow_add-e c = let r = read_2 c in let f = facts c.requires.stored.0 in omega (arith, r.inside, f.few)
@@ -96,16 +96,9 @@ append_ids-requires-in-loop-i c =
     let B = form_list (source a.src.now c.body_row-r.result) (e.first + e.sources) e.targets 1 in
     let t = 2 * (a.z.nodes + l.i) + 1 in record {
       holds = (targets_held c.requires.stored.0 l.i l.k (omega arith) e E _ row, omega arith, omega (arith, o.auto.room, l.invariant.3));
-      all_low = (
-        λ t m. omega (arith, low t m, f.few),
-        λ j h. subst (λ (X : List ℕ). start_of (appended_all (take j B) t X) (get_or B j 0) + count_of (appended_all (take j B) t X) (get_or B j 0) < most_ports) (sym o.ensures)
-            (targets_inside c.requires.stored.0 l.i l.k (omega arith) e E _ row (words a.room.now) (words l.room) (omega (arith, length_words a.room.now)) c.requires.empty l.invariant.2 _ refl j h),
-      ).0;
-      by_index = (
-        λ t m. omega (arith, low t m, f.few),
-        λ j h. subst (λ (X : List ℕ). start_of (appended_all (take j B) t X) (get_or B j 0) + count_of (appended_all (take j B) t X) (get_or B j 0) < most_ports) (sym o.ensures)
-            (targets_inside c.requires.stored.0 l.i l.k (omega arith) e E _ row (words a.room.now) (words l.room) (omega (arith, length_words a.room.now)) c.requires.empty l.invariant.2 _ refl j h),
-      ).1;
+      all_low = λ t m. omega (arith, low t m, f.few);
+      by_index = λ j h. subst (λ (X : List ℕ). start_of (appended_all (take j B) t X) (get_or B j 0) + count_of (appended_all (take j B) t X) (get_or B j 0) < most_ports) (sym o.ensures)
+          (targets_inside c.requires.stored.0 l.i l.k (omega arith) e E _ row (words a.room.now) (words l.room) (omega (arith, length_words a.room.now)) c.requires.empty l.invariant.2 _ refl j h);
     }
 
 pub loop-i-preserved : goal.loop-i-preserved

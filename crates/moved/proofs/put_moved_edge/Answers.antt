@@ -21,7 +21,7 @@ use Rattle.gone.proofs.Grows.{renamed_append, ids_grow}
 use borrow.Author.Rules.{rules}
 use native.Mathlib.Omega.{arith}
 use Rattle.moved.proofs.put_moved_edge.Goals as goal
-use Rattle.moved.proofs.put_moved_edge.Goals.{After-body_row-body, After-put_moved-arg-1, After-put_two-arg-1, After-slice_known-2-1, After-struct_known-1, Joined-i-e}
+use Rattle.moved.proofs.put_moved_edge.Goals.{then-i-e, else-i-e, After-body_row-body, After-put_moved-arg-1, After-put_two-arg-1, After-slice_known-2-1, After-struct_known-1, Joined-i-e}
 
 -- the new ids of the first n, of the sources and of the targets
 abbrev ids : After-struct_known-1 → ℕ → List ℕ
@@ -79,7 +79,7 @@ middle : (c : After-put_two-arg-1) → c.loop-i.middle ≡ c.args.j + 2 + length
 middle c = c.loop-i.invariant.1 (omega arith)
 
 end : (c : After-put_two-arg-1) → c.loop-i.end ≡ c.loop-i.middle + length (targets_2 c)
-end c = omega (arith, all.next, middle, ap length (lists_2 c), length-append (ids_4 c c.args.e.sources) (targets_2 c))
+end c = omega (arith, (all c).next, middle c, ap length (lists_2 c), length-append (ids_4 c c.args.e.sources) (targets_2 c))
 
 -- the new ids of the first n, of the sources and of the targets
 abbrev ids_5 : After-slice_known-2-1 → ℕ → List ℕ
@@ -101,7 +101,7 @@ middle_2 : (c : After-slice_known-2-1) → c.loop-i.middle ≡ c.args.j + 2 + le
 middle_2 c = c.loop-i.invariant.1 (omega arith)
 
 end_2 : (c : After-slice_known-2-1) → c.loop-i.end ≡ c.loop-i.middle + length (targets_3 c)
-end_2 c = omega (arith, all_2.next, middle_2, ap length (lists_3 c), length-append (ids_5 c c.args.e.sources) (targets_3 c))
+end_2 c = omega (arith, (all_2 c).next, middle_2 c, ap length (lists_3 c), length-append (ids_5 c c.args.e.sources) (targets_3 c))
 
 -- the new ids of the first n, of the sources and of the targets
 abbrev ids_6 : After-body_row-body → ℕ → List ℕ
@@ -144,10 +144,10 @@ loop-i-preserved c =
     let put = put_more (ids_grow goes a.src.now (body_of a.z) a.e.first (a.e.sources + a.e.targets)) (omega (arith, c.loop-i-test.true)) l.invariant.2
     (subst (λ (v : ℕ). Put l.out a.to l.end (renamed goes (v ∷ [])) p.new.out p.result) (read_2 c) p.ensures) in (
       omega (arith, c.loop-i-test.true),
-      (λ h. ⊎_elim
-          (λ w. let last : l.i + 1 ≡ a.e.sources = omega arith in omega (arith, w.1, put.next, ap (λ (n : ℕ). length (ids_3 c n)) last))
-          (λ w. omega (arith, w.1, l.invariant.1 (omega arith)))
-          c.if-i-e.branch),
+      (λ h. elim c.if-i-e.branch [
+        | then-i-e w ↦ let last : l.i + 1 ≡ a.e.sources = omega arith in omega (arith, w.middle-is, put.next, ap (λ (n : ℕ). length (ids_3 c n)) last)
+        | else-i-e w ↦ omega (arith, w.middle-is, l.invariant.1 (omega arith))
+      ]),
       put,
     )
 

@@ -48,10 +48,6 @@ moved : (c : Then-a-none) → flat (renamed_pairs (goes c) (paired (span c.args.
     ≡ cond (goes c (v c)) [] (cond (goes c (w c)) [] (new_id (goes c) (v c) ∷ new_id (goes c) (w c) ∷ []))
 moved c = pair_moved (goes c) c.args.src.now (body_of c.args.z) c.args.k
 
--- the first end stays
-one : (c : Then-a-none) → goes c (v c) ≡ false
-one c = placed c.args.z c.args.map.now (v c) (nodes c).0 (λ e. c.if-a-none.false (first_place c ∙ e ∙ sym c.highest-none.ensures))
-
 abbrev w_2 : Then-b-none → ℕ
 w_2 c = entry c.args.src.now (body_of c.args.z) (c.args.k + 1)
 

@@ -108,7 +108,7 @@ body_row-r-requires c = (facts c.requires.nodes_in_bounds.3).low
 pub loop-last-init : goal.loop-last-init
 loop-last-init c =
     let a = c.args in
-    (record { explaining = c.requires.explaining.0; queued = c.requires.explaining.1.0; unkept = c.requires.explaining.1.1; frame = outside_none 0 (16 * a.z.nodes) a.out.now }, refl)
+    (record { explaining = c.requires.explaining; queued = c.requires.queued.0; unkept = c.requires.queued.1; frame = outside_none 0 (16 * a.z.nodes) a.out.now }, refl)
 
 pub overflow_add-last : goal.overflow_add-last
 overflow_add-last c = omega (arith, (within c).1, (drawn c.requires.nodes_in_bounds.3).few)

@@ -89,20 +89,11 @@ explain-requires c =
     let X = words x.new.room in
     let Y = words k.new.room in record {
       nodes_in_bounds = (omega (arith, f.auto.out), positive c.if-m-eq0.false, omega (arith, d.few_nodes, k.ensures.few, f.auto.room, x.auto.room, k.auto.room), c.requires.2);
-      explaining = (
-        queue_explaining q g W f.new.out a.z.nodes n f.result d (long_3 c) f.ensures.0 X x.ensures Y k.result k.ensures,
-        (
-          queue_queued q g W f.new.out a.z.nodes n f.result d (long_3 c) f.ensures.0 X x.ensures Y k.result k.ensures,
-          queue_none q g W f.new.out a.z.nodes n f.result d (long_3 c) f.ensures.0 X x.ensures Y k.result k.ensures,
-        ),
-      ).0;
+      explaining = queue_explaining q g W f.new.out a.z.nodes n f.result d (long_3 c) f.ensures.0 X x.ensures Y k.result k.ensures;
       queued = (
-        queue_explaining q g W f.new.out a.z.nodes n f.result d (long_3 c) f.ensures.0 X x.ensures Y k.result k.ensures,
-        (
-          queue_queued q g W f.new.out a.z.nodes n f.result d (long_3 c) f.ensures.0 X x.ensures Y k.result k.ensures,
-          queue_none q g W f.new.out a.z.nodes n f.result d (long_3 c) f.ensures.0 X x.ensures Y k.result k.ensures,
-        ),
-      ).1;
+        queue_queued q g W f.new.out a.z.nodes n f.result d (long_3 c) f.ensures.0 X x.ensures Y k.result k.ensures,
+        queue_none q g W f.new.out a.z.nodes n f.result d (long_3 c) f.ensures.0 X x.ensures Y k.result k.ensures,
+      );
     }
 
 pub returns : goal.returns
