@@ -12,11 +12,6 @@ use Rattle.edges.specs.contracts.Edges.{the_type}
 use Rattle.edges.proofs.Edge.{Sofar, one_more, stopped, ended, begun}
 use Rattle.edges.proofs.read_edges.Goals as goal
 
--- the key of what is not the next place
-neither : {k : ℕ} → (k ≡ 1) ⊎ (k ≡ 2) → k ≡ 0 → ⊥
-neither (inl e) z = omega arith
-neither (inr e) z = omega arith
-
 pub loop-i-init : goal.loop-i-init
 loop-i-init c = (omega arith, begun (meant c.args.f) c.args.s.now c.args.start (search rules))
 
@@ -30,14 +25,13 @@ returns-in_default c =
     let e = c.read_edge-step in (
       e.ensures.0,
       λ labels n. stopped (meant a.f) a.s.now a.start l.at l.ports l.bound l.i l.invariant.1 e.result e.ensures.1
-          (λ p q r is. neither c.in_default.in_default-own.keys2 (ap (tag_of the_type) is)) labels (omega arith),
+          c.in_default.not-Next labels (omega arith),
     )
 
 pub loop-i-preserved : goal.loop-i-preserved
 loop-i-preserved c =
     let a = c.args in
-    let l = c.loop-i in
-    let s = c.step-1.given in (
+    let l = c.loop-i in (
       omega arith,
       one_more (meant a.f) a.s.now a.start l.at l.ports l.bound l.i l.invariant.1 c.read_edge-step.result c.read_edge-step.ensures.1 c.in-Next.p c.in-Next.a c.in-Next.b c.in-Next.is,
     )
