@@ -40,7 +40,7 @@ edge c = number_answered _ _ (asked_2 c) _ c.in-Number.is
 
 given : (c : In_default-turn) → let a = c.args in let g = drawing (words a.room.now) a.z in
     stepped (target_step (number_at 4 a.steps.now a.at) (number_at 4 a.steps.now (a.at + 4))) g ≡ answered (add_edge_target c.in-Number.edge (number_at 4 a.steps.now (a.at + 4)) g)
-given c = let a = c.args in by_step _ _ _ ∙ goes _ (edge c)
+given c = by_step _ _ _ ∙ goes _ (edge c)
 
 low : (c : In_default-turn) → c.in-Number.edge < c.args.z.edges
 low c = let a = c.args in omega (arith, known_below _ _ _ (edge c), drawn_edges (words a.room.now) a.z)
@@ -64,7 +64,7 @@ edge_3 c = number_answered _ _ (asked_4 c) _ c.in-Number.is
 
 given_2 : (c : After-slice_known-2-1) → let a = c.args in let g = drawing (words a.room.now) a.z in
     stepped (target_step (number_at 4 a.steps.now a.at) (number_at 4 a.steps.now (a.at + 4))) g ≡ answered (add_edge_target c.in-Number.edge (number_at 4 a.steps.now (a.at + 4)) g)
-given_2 c = let a = c.args in by_step _ _ _ ∙ goes _ (edge_3 c)
+given_2 c = by_step _ _ _ ∙ goes _ (edge_3 c)
 
 low_3 : (c : After-slice_known-2-1) → c.in-Number.edge < c.args.z.edges
 low_3 c = let a = c.args in omega (arith, known_below _ _ _ (edge_3 c), drawn_edges (words a.room.now) a.z)
@@ -74,11 +74,10 @@ get4-requires c = omega (arith, c.requires.2)
 
 pub returns-in_default : goal.returns-in_default
 returns-in_default c =
-    let a = c.args in
     step_stops _ _ _ _ (by_step _ _ _ ∙ stops _ (number_refused _ _ (asked c) _ (passed_on c.in_default.is c.refusal.ensures)))
 
 pub grown-turn-requires : goal.grown-turn-requires
-grown-turn-requires c = let w = c.requires.0.within in let f = c.requires.0.few in (omega arith, omega arith, omega arith, omega arith)
+grown-turn-requires c = (omega arith, omega arith, omega arith, omega arith)
 
 pub returns-in_default-turn : goal.returns-in_default-turn
 returns-in_default-turn c =

@@ -77,7 +77,7 @@ listed_2 c = let a = c.args in
     (λ i. span b (c.row_at.ensures i) 0 ((known_2 c).2 i)) ∙ span_numbers b a.p.lists 0 a.p.first ∙ ap (λ (i : ℕ). numbers 4 a.p.first (drop i b)) z₀
 
 pub ids_at-ids-requires : goal.ids_at-ids-requires
-ids_at-ids-requires c = let l = c.requires.2 in omega arith
+ids_at-ids-requires c = omega arith
 
 pub returns-in_default : goal.returns-in_default
 returns-in_default c = step_stops _ _ _ _ (by_step _ _ ∙ stops _ (list_refused _ _ (asked c) _ (passed_on c.in_default.is c.refusal.ensures)))
@@ -86,7 +86,6 @@ pub delete_edges-requires : goal.delete_edges-requires
 delete_edges-requires c =
     let a = c.args in
     let k = known c in
-    let l = c.requires.2 in
     let below : Below a.z.edges (numbers 4 a.p.first (drop a.p.lists a.steps.now)) = subst (λ (n : ℕ). Below n (numbers 4 a.p.first (drop a.p.lists a.steps.now))) (drawn_edges (words a.room.now) a.z) k.1 in
     (c.requires.0, at_row c.row_at.ensures (list_held a.steps.now a.p.lists _ (omega (arith, k.2))), subst (Below a.z.edges) (sym (listed c)) below, c.requires.1)
 

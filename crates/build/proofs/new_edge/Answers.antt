@@ -219,29 +219,29 @@ targets_2 c = let a = c.args in
     (λ i. span b (c.row_at.ensures i) (z₀ i) ((second_4 c).2 i)) ∙ span_numbers b a.p.lists a.p.first a.p.second
 
 pub ids_at-from-requires : goal.ids_at-from-requires
-ids_at-from-requires c = let l = c.requires.2 in omega arith
+ids_at-from-requires c = omega arith
 
 pub returns-in_default : goal.returns-in_default
 returns-in_default c = step_stops _ _ _ _ (by_step _ _ _ _ ∙ stops _ (list_refused _ _ (asked c) _ (passed_on c.in_default.is c.refusal.ensures)))
 
 pub overflow_mul-p : goal.overflow_mul-p
-overflow_mul-p c = let l = c.requires.2 in omega arith
+overflow_mul-p c = omega arith
 
 pub overflow_add-p : goal.overflow_add-p
-overflow_add-p c = let l = c.requires.2 in omega arith
+overflow_add-p c = omega arith
 
 pub ids_at-to-requires : goal.ids_at-to-requires
-ids_at-to-requires c = let l = c.requires.2 in omega arith
+ids_at-to-requires c = omega arith
 
 pub returns-in_default-to : goal.returns-in_default-to
 returns-in_default-to c =
     step_stops _ _ _ _ (by_step _ _ _ _ ∙ goes _ (first c).0 ∙ stops _ (list_refused _ _ (asked2 c) _ (passed_on c.in_default-to.is c.refusal-in_default-to.ensures)))
 
 pub overflow_add-s : goal.overflow_add-s
-overflow_add-s c = let l = c.requires.2 in omega (arith, (first_2 c).2, (second (c)).2)
+overflow_add-s c = omega (arith, (first_2 c).2, (second (c)).2)
 
 pub grown-turn-requires : goal.grown-turn-requires
-grown-turn-requires c = let w = c.requires.0.within in let f = c.requires.0.few in let l = c.requires.2 in (omega arith, omega arith, omega (arith, (first_2 c).2, (second (c)).2), omega arith)
+grown-turn-requires c = (omega arith, omega arith, omega (arith, (first_2 c).2, (second (c)).2), omega arith)
 
 pub returns-in_default-turn : goal.returns-in_default-turn
 returns-in_default-turn c =
@@ -256,7 +256,6 @@ pub add_edge-requires : goal.add_edge-requires
 add_edge-requires c =
     let a = c.args in
     let W = words a.room.now in
-    let l = c.requires.2 in
     let n = drawn_nodes W a.z in
     let m = first_4 c in
     let o = second_3 c in

@@ -20,7 +20,7 @@ unfolding stepped
 node l g = refl
 
 pub grown-turn-requires : goal.grown-turn-requires
-grown-turn-requires c = let w = c.requires.0.within in let f = c.requires.0.few in (omega arith, omega arith, omega arith, omega arith)
+grown-turn-requires c = (omega arith, omega arith, omega arith, omega arith)
 
 pub returns-in_default : goal.returns-in_default
 returns-in_default c =

@@ -35,10 +35,10 @@ sizes b at lists m n g z S =
     subst (λ (k : ℕ). Sized (new_operation (number_at 4 b at) s t g) (more z k 1 k 0)) (λ i. length_numbers 4 m (drop lists b) i + length_numbers 4 n (drop (lists + 4 * m) b) i) (operation_sized g z S (number_at 4 b at) s t)
 
 pub overflow_add-new : goal.overflow_add-new
-overflow_add-new c = let l = c.requires.2 in omega arith
+overflow_add-new c = omega arith
 
 pub grown-turn-requires : goal.grown-turn-requires
-grown-turn-requires c = let w = c.requires.0.within in let f = c.requires.0.few in let l = c.requires.2 in (omega arith, omega arith, omega arith, omega arith)
+grown-turn-requires c = (omega arith, omega arith, omega arith, omega arith)
 
 pub returns-in_default : goal.returns-in_default
 returns-in_default c =

@@ -21,10 +21,10 @@ returns-then-left-n c =
     head_cut _ a.steps.now a.place c.requires (omega (arith, n, c.if-n-eq0.false)) (omega (arith, n, c.if-left-n.true))
 
 pub first_count-first-requires : goal.first_count-first-requires
-first_count-first-requires c = let n = c.head_numbers-n.ensures in omega (arith, c.if-left-n.false, c.requires)
+first_count-first-requires c = omega (arith, c.if-left-n.false, c.requires)
 
 pub second_count-second-requires : goal.second_count-second-requires
-second_count-second-requires c = let n = c.head_numbers-n.ensures in omega (arith, c.if-left-n.false, c.requires)
+second_count-second-requires c = omega (arith, c.if-left-n.false, c.requires)
 
 pub overflow_add-first : goal.overflow_add-first
 overflow_add-first c = omega (arith, c.first_count-first.ensures.1, c.second_count-second.ensures.1)
@@ -36,10 +36,10 @@ returns-then-left-n-2 c =
     lists_cut _ a.steps.now a.place c.requires (omega (arith, n, c.if-n-eq0.false)) (omega (arith, n, c.if-left-n.false)) c.first_count-first.result c.second_count-second.result c.first_count-first.ensures.0 c.second_count-second.ensures.0 (omega (arith, n, c.if-left-n-2.true))
 
 pub overflow_mul-lists : goal.overflow_mul-lists
-overflow_mul-lists c = let n = c.head_numbers-n.ensures in omega (arith, c.if-left-n.false, c.requires)
+overflow_mul-lists c = omega (arith, c.if-left-n.false, c.requires)
 
 pub overflow_add-lists : goal.overflow_add-lists
-overflow_add-lists c = let n = c.head_numbers-n.ensures in omega (arith, c.if-left-n.false, c.requires)
+overflow_add-lists c = omega (arith, c.if-left-n.false, c.requires)
 
 pub overflow_add-result : goal.overflow_add-result
 overflow_add-result c = omega (arith, c.first_count-first.ensures.1, c.second_count-second.ensures.1)
@@ -48,7 +48,7 @@ pub overflow_mul-result : goal.overflow_mul-result
 overflow_mul-result c = omega (arith, c.first_count-first.ensures.1, c.second_count-second.ensures.1)
 
 pub overflow_add-result-2 : goal.overflow_add-result-2
-overflow_add-result-2 c = let n = c.head_numbers-n.ensures in omega (arith, c.if-left-n.false, c.if-left-n-2.false, c.requires)
+overflow_add-result-2 c = omega (arith, c.if-left-n.false, c.if-left-n-2.false, c.requires)
 
 pub returns : goal.returns
 returns c =

@@ -13,7 +13,7 @@ use borrow.Author.Rules.{rules}
 use Rattle.build.proofs.turn.Goals as goal
 
 pub new_node-requires : goal.new_node-requires
-new_node-requires c = let t = c.requires.2.1 in let h = ap head_numbers c.in-1.is in (c.requires.0, c.requires.1, omega (arith, h))
+new_node-requires c = let h = ap head_numbers c.in-1.is in (c.requires.0, c.requires.1, omega (arith, h))
 
 pub returns-in-1 : goal.returns-in-1
 returns-in-1 c =
@@ -37,7 +37,7 @@ returns-in-3 c =
     subst (λ (s : Step). Turned (calls.turn (answered s) (drawing (words a.room.now) a.z)) c.new_operation.result (words c.new_operation.new.room)) (sym (operation_kind a.steps.now c.requires.2.0 a.p c.requires.2.1 c.in-3.is)) c.new_operation.ensures
 
 pub unify-requires : goal.unify-requires
-unify-requires c = let t = c.requires.2.1 in let h = ap head_numbers c.in-4.is in (c.requires.0, c.requires.1, omega (arith, h))
+unify-requires c = let h = ap head_numbers c.in-4.is in (c.requires.0, c.requires.1, omega (arith, h))
 
 pub returns-in-4 : goal.returns-in-4
 returns-in-4 c =
@@ -45,7 +45,7 @@ returns-in-4 c =
     subst (λ (s : Step). Turned (calls.turn (answered s) (drawing (words a.room.now) a.z)) c.unify.result (words c.unify.new.room)) (sym (pair_kind a.steps.now c.requires.2.0 a.p c.requires.2.1 c.in-4.is)) c.unify.ensures
 
 pub add_edge_source-requires : goal.add_edge_source-requires
-add_edge_source-requires c = let t = c.requires.2.1 in let h = ap head_numbers c.in-5.is in (c.requires.0, c.requires.1, omega (arith, h))
+add_edge_source-requires c = let h = ap head_numbers c.in-5.is in (c.requires.0, c.requires.1, omega (arith, h))
 
 pub returns-in-5 : goal.returns-in-5
 returns-in-5 c =
@@ -53,7 +53,7 @@ returns-in-5 c =
     subst (λ (s : Step). Turned (calls.turn (answered s) (drawing (words a.room.now) a.z)) c.add_edge_source.result (words c.add_edge_source.new.room)) (sym (source_kind a.steps.now c.requires.2.0 a.p c.requires.2.1 c.in-5.is)) c.add_edge_source.ensures
 
 pub add_edge_target-requires : goal.add_edge_target-requires
-add_edge_target-requires c = let t = c.requires.2.1 in let h = ap head_numbers c.in-6.is in (c.requires.0, c.requires.1, omega (arith, h))
+add_edge_target-requires c = let h = ap head_numbers c.in-6.is in (c.requires.0, c.requires.1, omega (arith, h))
 
 pub returns-in-6 : goal.returns-in-6
 returns-in-6 c =

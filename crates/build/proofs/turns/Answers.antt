@@ -58,7 +58,7 @@ pub overflow_add-index : goal.overflow_add-index
 overflow_add-index c = let l = c.loop-at in let t = (step_3 c).there in omega (arith, l.invariant.1, t.at, t.lists, t.end, t.inside)
 
 pub loop-at-smaller : goal.loop-at-smaller
-loop-at-smaller c = let l = c.loop-at in let t = (step_3 c).there in omega (arith, t.at, t.lists, t.end, t.inside)
+loop-at-smaller c = let t = (step_3 c).there in omega (arith, t.at, t.lists, t.end, t.inside)
 
 pub loop-at-preserved : goal.loop-at-preserved
 loop-at-preserved c =

@@ -129,7 +129,7 @@ returns-in_default-second c =
     step_stops _ _ _ _ (read_2 c ∙ goes _ (first c) ∙ stops _ (number_refused _ _ (asked2 c) _ (passed_on c.in_default-second.is c.refusal-in_default-second.ensures)))
 
 pub grown-turn-requires : goal.grown-turn-requires
-grown-turn-requires c = let w = c.requires.0.within in let f = c.requires.0.few in (omega arith, omega arith, omega arith, omega arith)
+grown-turn-requires c = (omega arith, omega arith, omega arith, omega arith)
 
 pub returns-in_default-turn : goal.returns-in_default-turn
 returns-in_default-turn c =

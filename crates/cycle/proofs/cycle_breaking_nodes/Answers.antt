@@ -31,14 +31,12 @@ next room s g = listing s.format room (chosen g)
 form : (c : After-refusal-in_default-pairs) → Stored c.args.src.now c.in-Sized.z
 form c = let b = c.args.src.now in
     let r = c.read-graph in
-    let g = c.graph-1.given in
     stored b r.result r.ensures (below_each 256 b (λ i l. omega (arith, c.type_inv.src i))) c.in-Sized.z c.in-Sized.is
 
 -- the form that was read
 form_2 : (c : After-choose-arg-3-1) → Stored c.args.src.now c.in-Sized.z
 form_2 c = let b = c.args.src.now in
     let r = c.read-graph in
-    let g = c.graph-1.given in
     stored b r.result r.ensures (below_each 256 b (λ i l. omega (arith, c.type_inv.src i))) c.in-Sized.z c.in-Sized.is
 
 -- the room is long enough
@@ -50,7 +48,6 @@ long c = let w = c.work_room-lent in
 form_3 : (c : After-slice_known-4-1) → Stored c.args.src.now c.in-Sized.z
 form_3 c = let b = c.args.src.now in
     let r = c.read-graph in
-    let g = c.graph-1.given in
     stored b r.result r.ensures (below_each 256 b (λ i l. omega (arith, c.type_inv.src i))) c.in-Sized.z c.in-Sized.is
 
 -- no refusal was met

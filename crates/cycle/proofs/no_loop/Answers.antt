@@ -28,21 +28,18 @@ next s g = answered (saying (no_loop g))
 form : (c : After-refusal-in_default-pairs) → Stored c.args.src.now c.in-Sized.z
 form c = let b = c.args.src.now in
     let r = c.read-graph in
-    let g = c.graph-1.given in
     stored b r.result r.ensures (below_each 256 b (λ i l. omega (arith, c.type_inv.src i))) c.in-Sized.z c.in-Sized.is
 
 -- the form that was read
 form_2 : (c : After-is_acyclic-arg-1) → Stored c.args.src.now c.in-Sized.z
 form_2 c = let b = c.args.src.now in
     let r = c.read-graph in
-    let g = c.graph-1.given in
     stored b r.result r.ensures (below_each 256 b (λ i l. omega (arith, c.type_inv.src i))) c.in-Sized.z c.in-Sized.is
 
 -- the form that was read
 form_3 : (c : Then-is_acyclic) → Stored c.args.src.now c.in-Sized.z
 form_3 c = let b = c.args.src.now in
     let r = c.read-graph in
-    let g = c.graph-1.given in
     stored b r.result r.ensures (below_each 256 b (λ i l. omega (arith, c.type_inv.src i))) c.in-Sized.z c.in-Sized.is
 
 -- what was found
@@ -58,7 +55,6 @@ decided c = let w = c.work_room-lent in
 form_4 : (c : Else-is_acyclic) → Stored c.args.src.now c.in-Sized.z
 form_4 c = let b = c.args.src.now in
     let r = c.read-graph in
-    let g = c.graph-1.given in
     stored b r.result r.ensures (below_each 256 b (λ i l. omega (arith, c.type_inv.src i))) c.in-Sized.z c.in-Sized.is
 
 -- what was found

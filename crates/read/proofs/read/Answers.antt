@@ -59,7 +59,6 @@ numbered_so_3 c = let r = c.read_version-version in
 pub returns-in_default : goal.returns-in_default
 unfolding read
 returns-in_default c =
-    let x = c.enum_told-1.given in
     let r = c.read_version-version in
     ap Refused (c.refusal.ensures ∙ ap refusal_in c.in_default.is) ∙ sym (ap reading (stops _ (number_refused _ r.result r.ensures c.in_default.field-0 c.in_default.is)))
 
@@ -76,5 +75,4 @@ returns-in-Is c =
 pub returns-in-Refused : goal.returns-in-Refused
 unfolding read
 returns-in-Refused c =
-    let x = c.x-1.given in
     sym (ap reading (goes _ (numbered_so_3 c) ∙ stops _ (version_refused _ c.in-Refused.x (sym c.in-Refused.is ∙ c.format_numbered.ensures))))

@@ -33,7 +33,6 @@ numbered_so_2 c = let r = c.read_version-version in
 pub returns-in_default : goal.returns-in_default
 unfolding read_as
 returns-in_default c =
-    let x = c.enum_told-1.given in
     let r = c.read_version-version in
     ap Refused (c.refusal.ensures ∙ ap refusal_in c.in_default.is) ∙ sym (ap (measured _) (stops _ (number_refused _ r.result r.ensures c.in_default.field-0 c.in_default.is)))
 

@@ -78,7 +78,6 @@ returns-then-s-header c = let a = c.args in no_labels (meant a.f) a.s.now a.z (o
 pub read_lists-requires : goal.read_lists-requires
 read_lists-requires c =
     let a = c.args in
-    let x = c.ports-1.given in
     let w = went (meant a.f) a.s.now a.z (omega arith) c.requires.0 c.read_edges.result (after_labels c) c.in-Next.ports c.in-Next.at c.in-Next.bound c.in-Next.is in (
       w.inside,
       c.requires.1,
@@ -90,25 +89,21 @@ read_lists-requires c =
 pub returns-in-Next : goal.returns-in-Next
 returns-in-Next c =
     let a = c.args in
-    let x = c.ports-1.given in
     let w = went (meant a.f) a.s.now a.z (omega arith) c.requires.0 c.read_edges.result (after_labels_2 c) c.in-Next.ports c.in-Next.at c.in-Next.bound c.in-Next.is in
     c.read_lists.ensures (drop (header_bytes (meant a.f)) a.s.now) w.edges w.is_edges w.is_ports w.is_bound c.labels_end-start.ensures (from_labels_2 c w.edges c.in-Next.at w.stand) ∙ sym (ap (measured a.f.width) w.onward)
 
 pub count_over-requires : goal.count_over-requires
 count_over-requires c =
-    let y = c.at-1.given in
     let there = subst (CountsThere c.args.f.width c.args.s.now) c.in-Over.is c.read_edges.ensures.0 in
     (record { wide = c.requires.2.width; inside = there }, (small c.requires.2).ports)
 
 pub returns-in-Over : goal.returns-in-Over
 returns-in-Over c =
     let a = c.args in
-    let y = c.at-1.given in
     ap (λ (p : ℕ). Refused (record { no = 4; place = p })) c.count_over.ensures
     ∙ edge_refused (meant a.f) a.s.now a.z (omega arith) c.requires.0 c.read_edges.result (after_labels_3 c) _ (ap (settled (meant a.f) a.s.now) c.in-Over.is)
 
 pub returns-in-Refused : goal.returns-in-Refused
 returns-in-Refused c =
     let a = c.args in
-    let x = c.x-1.given in
     edge_refused (meant a.f) a.s.now a.z (omega arith) c.requires.0 c.read_edges.result (after_labels_4 c) c.in-Refused.x (ap (settled (meant a.f) a.s.now) c.in-Refused.is)

@@ -29,9 +29,9 @@ version_so : (c : Then-fitting_width-z) → Version (meant c.args.f)
 version_so c = (version_known _ _ c.requires.1).0
 
 -- the width of the version that it fits
-fitting_so : (c : Then-fitting_width-z) (d : tie.After-graph) → c.fitting_width.result ≡ (fitting_sizes (counts_of d.graph.given.0.0) d.graph.given.0.0.ports).width
-    → c.fitting_width.result ≡ (fitting (graph_so d).0).width
-fitting_so c d e = e ∙ ap (λ (z : Sizes). (fitting_sizes (counts_of z) z.ports).width) (graph_so d).2
+fitting_so : (c : Then-fitting_width-z) → c.fitting_width.result ≡ (fitting_sizes (counts_of c.in-Sized.z) c.in-Sized.z.ports).width
+    → c.fitting_width.result ≡ (fitting (graph_so c).0).width
+fitting_so c e = e ∙ ap (λ (z : Sizes). (fitting_sizes (counts_of z) z.ports).width) (graph_so c).2
 
 -- the graph that was read, and its sizes
 graph_so_2 : (c : Else-fitting_width-z)
@@ -43,9 +43,9 @@ version_so_2 : (c : Else-fitting_width-z) → Version (meant c.args.f)
 version_so_2 c = (version_known _ _ c.requires.1).0
 
 -- the width of the version that it fits
-fitting_so_2 : (c : Else-fitting_width-z) (d : tie.After-graph) → c.fitting_width.result ≡ (fitting_sizes (counts_of d.graph.given.0.0) d.graph.given.0.0.ports).width
-    → c.fitting_width.result ≡ (fitting (graph_so_2 d).0).width
-fitting_so_2 c d e = e ∙ ap (λ (z : Sizes). (fitting_sizes (counts_of z) z.ports).width) (graph_so_2 d).2
+fitting_so_2 : (c : Else-fitting_width-z) → c.fitting_width.result ≡ (fitting_sizes (counts_of c.in-Sized.z) c.in-Sized.z.ports).width
+    → c.fitting_width.result ≡ (fitting (graph_so_2 c).0).width
+fitting_so_2 c e = e ∙ ap (λ (z : Sizes). (fitting_sizes (counts_of z) z.ports).width) (graph_so_2 c).2
 
 pub read_in-graph-requires : goal.read_in-graph-requires
 read_in-graph-requires c = (version_known _ _ c.requires.1).0.usable
@@ -53,7 +53,6 @@ read_in-graph-requires c = (version_known _ _ c.requires.1).0.usable
 pub returns-in_default : goal.returns-in_default
 unfolding read_fitting
 returns-in_default c =
-    let x = c.enum_told-1.given in
     c.in_default.is ∙ sym (ap (measured c.args.f.width) (stops _ (graph_refused _ _ c.in_default.field-0 (sym c.in_default.is ∙ c.read_in-graph.ensures))))
 
 pub returns-then-f-eq1 : goal.returns-then-f-eq1
@@ -69,7 +68,7 @@ pub returns-then-fitting_width-z : goal.returns-then-fitting_width-z
 unfolding read_fitting
 returns-then-fitting_width-z c =
     let g = graph_so c in
-    let w = fitting_so c c c.fitting_width.ensures in
+    let w = fitting_so c c.fitting_width.ensures in
     sym (ap (measured c.args.f.width)
     (goes _ g.1 ∙ version_13 g.0 (version_so c) (λ e. c.if-fitting_width-z.true (w ∙ e ∙ sym (ap (λ (z : Sizes). z.width) g.2)))))
 
@@ -77,7 +76,7 @@ pub returns : goal.returns
 unfolding read_fitting
 returns c =
     let g = graph_so_2 c in
-    let w = fitting_so_2 c c c.fitting_width.ensures in
+    let w = fitting_so_2 c c.fitting_width.ensures in
     let fits = same_width (fitting_version g.0) (version_so_2 c) (sym w ∙ c.if-fitting_width-z.false ∙ ap (λ (z : Sizes). z.width) g.2) in
     sym c.in-Sized.is ∙ c.read_in-graph.ensures
     ∙ ap (measured c.args.f.width) (g.1 ∙ sym (goes _ g.1 ∙ version_passes g.0 fits))

@@ -35,7 +35,6 @@ counts_2 c = head_read _ _ (sizes_2 c) (sym c.in-Sized.is ∙ c.read_counts-head
 pub returns-in_default : goal.returns-in_default
 unfolding read_in
 returns-in_default c =
-    let x = c.enum_told-1.given in
     c.in_default.is ∙ sym (ap (measured c.args.f.width) (stops _ (head_refused _ _ c.in_default.field-0 (sym c.in_default.is ∙ c.read_counts-head.ensures))))
 
 pub read_body-requires : goal.read_body-requires

@@ -16,14 +16,12 @@ use Rattle.read.proofs.read_lists.Goals.{After-struct_known-3-1, Then-s-at}
 few : (c : After-struct_known-3-1) → (c.args.z.sources + (c.args.z.targets + 2 * c.args.z.pairs)) * c.args.f.width < 2 ^ 40
 few c = let z = c.args.z in
     let l = small c.requires.2 in
-    let w = c.requires.1 in
     omega (arith, mul-le-mul_left (z.sources + (z.targets + 2 * z.pairs)) l.narrow)
 
 -- the lists take few bytes
 few_2 : (c : Then-s-at) → (c.args.z.sources + (c.args.z.targets + 2 * c.args.z.pairs)) * c.args.f.width < 2 ^ 40
 few_2 c = let z = c.args.z in
     let l = small c.requires.2 in
-    let w = c.requires.1 in
     omega (arith, mul-le-mul_left (z.sources + (z.targets + 2 * z.pairs)) l.narrow)
 
 pub overflow_mul-ids : goal.overflow_mul-ids

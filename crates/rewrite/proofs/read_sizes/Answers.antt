@@ -27,7 +27,6 @@ unfolding ◌>>=◌
 returns-in_default c =
     let a = c.args in
     let r = c.read-graph in
-    let x = c.enum_told-1.given in
     gives_refused c.refusal.result a.out.now (rw (unread a.src.now r.result r.ensures c.refusal.result (passed_read c.in_default.is c.refusal.ensures)))
 
 pub returns-then-out-lt-SIZES_BYTES : goal.returns-then-out-lt-SIZES_BYTES

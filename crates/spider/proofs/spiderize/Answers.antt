@@ -92,7 +92,6 @@ pub returns-in_default-merging : goal.returns-in_default-merging
 returns-in_default-merging c =
     let a = c.args in
     let r = c.map_classes-merging in
-    let x = c.enum_told-in_default-merging-1.given in
     let g = graph_of a.src.now in
     stopped (form_2 c) (λ f. spiderize_all_step) a.out.now c.in_default-merging.is c.refusal-in_default-merging.ensures (spiderize_all_11 g _ (told_refused g _ r.result r.ensures c.in_default-merging.field-0 c.in_default-merging.is))
 

@@ -208,7 +208,6 @@ id_list-list-requires c = (stored_rows (form c).form).low.width
 pub returns-in_default-list : goal.returns-in_default-list
 returns-in_default-list c =
     let b = c.args.src.now in
-    let x = c.enum_told-in_default-list-1.given in
     let l = c.id_list-list in
     let o = form_2 c in
     let e = ids_refused o.form _ _ l.result l.ensures c.in_default-list.field-0 c.in_default-list.is in
@@ -222,7 +221,6 @@ pub returns-in_default-merging : goal.returns-in_default-merging
 returns-in_default-merging c =
     let b = c.args.src.now in
     let r = c.map_classes-merging in
-    let x = c.enum_told-in_default-merging-1.given in
     stopped (form_4 c) (next_4 c) c.args.out.now c.in_default-merging.is c.refusal-in_default-merging.ensures
     (spiderize_11 (format_of b) c.args.ids.now (graph_of b) _ (is_list c) _ (told_refused (graph_of b) _ r.result r.ensures c.in_default-merging.field-0 c.in_default-merging.is))
 

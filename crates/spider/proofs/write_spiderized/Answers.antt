@@ -109,7 +109,6 @@ result_size-size-requires c = sizes c ∙ ap (λ (y : Sizes). fitted (counts_of 
 
 pub returns-in_default : goal.returns-in_default
 returns-in_default c = λ next is.
-    let x = c.enum_told-1.given in
     let r = c.result_size-size in
     passes (c.refusal.ensures ∙ ap refusal_in c.in_default.is)
     (graph_refused c.args.src.now next c.args.out.now c.requires.mapped.stored (result_2 c) is c.result_sizes-y.result (sizes_2 c) r.result r.ensures c.in_default.field-0 c.in_default.is)

@@ -17,7 +17,6 @@ returns-in_default c =
 pub returns-then-most-total : goal.returns-then-most-total
 returns-then-most-total c =
     let a = c.args in
-    let g = c.d-1.given in
     let m = c.in-Drawing.most in
     sym (ap (λ (d : Dearest). dearest_in (dearer (dearest_meant d) a.index a.total)) c.in-Drawing.is
     ∙ ap (λ (b : Bool). dearest_in (cond b (at a.index a.total) (at c.in-Drawing.index m))) (lt-ltb m a.total c.if-most-total.true))
@@ -25,7 +24,6 @@ returns-then-most-total c =
 pub returns : goal.returns
 returns c =
     let a = c.args in
-    let g = c.d-1.given in
     let m = c.in-Drawing.most in
     sym (ap (λ (d : Dearest). dearest_in (dearer (dearest_meant d) a.index a.total)) c.in-Drawing.is
     ∙ ap (λ (b : Bool). dearest_in (cond b (at a.index a.total) (at c.in-Drawing.index m))) (le-ltb m a.total c.if-most-total.false))
