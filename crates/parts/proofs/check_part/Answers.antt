@@ -1,7 +1,7 @@
 -- `parts::check_part` meets its contract.
 -- Assumes nothing.
 use mathlib.Core.Path.{◌≡◌, sym, ap, ◌∙◌}
-use Prim.Native.Nat.{ℕ}
+use Prim.Native.Nat.{ℕ, ◌<◌, ◌≤◌}
 use native.Mathlib.Omega.{arith}
 use borrow.Author.Rules.{rules}
 use Rattle.form.specs.Form.{tested}
@@ -21,14 +21,26 @@ returns-then-label-lt1 c = λ e l s t. sym (ap tested (below_14 e (λ q. c.if-la
 pub returns-then-label-gt12 : goal.returns-then-label-gt12
 returns-then-label-gt12 c = λ e l s t. sym (ap tested (above_14 e (λ q. c.if-label-eq-SPIDER.false (sym l ∙ q)) (omega arith) (omega arith)))
 
+-- an edge of this label is no spider, and of a kind
+plain : (e : Edge) (n : ℕ) → e.label ≡ n → (n ≡ spider → ⊥) → e.label ≡ spider → ⊥
+plain e n l h q = h (sym l ∙ q)
+
+inside : (e : Edge) (n : ℕ) → e.label ≡ n → 0 < n → n ≤ 12 → InCatalogue e.label
+inside e n l low high = record { low = omega arith; high = omega arith }
+
 pub returns-then-sources-row : goal.returns-then-sources-row
 returns-then-sources-row c = λ e l s t.
-    sym (ap tested (sources_15 e (plain c e l) (inside c e l) (λ q. c.if-sources-row.true (sym s ∙ q ∙ sym (row_sources c e l)))))
+    let sources : c.kind_row-row.result.sources ≡ (kind_of e.label).sources = ap (λ (r : KindRow). r.sources) c.kind_row-row.ensures ∙ ap (λ (n : ℕ). (kind_of n).sources) (sym l) in
+    sym (ap tested (sources_15 e (plain e _ l c.if-label-eq-SPIDER.false) (inside e _ l (omega arith) (omega arith)) (λ q. c.if-sources-row.true (sym s ∙ q ∙ sym sources))))
 
 pub returns-then-targets-row : goal.returns-then-targets-row
 returns-then-targets-row c = λ e l s t.
-    sym (ap tested (targets_15 e (plain c e l) (inside c e l) (s ∙ c.if-sources-row.false ∙ row_sources c e l) (λ q. c.if-targets-row.true (sym t ∙ q ∙ sym (row_targets c e l)))))
+    let sources : c.kind_row-row.result.sources ≡ (kind_of e.label).sources = ap (λ (r : KindRow). r.sources) c.kind_row-row.ensures ∙ ap (λ (n : ℕ). (kind_of n).sources) (sym l) in
+    let targets : c.kind_row-row.result.targets ≡ (kind_of e.label).targets = ap (λ (r : KindRow). r.targets) c.kind_row-row.ensures ∙ ap (λ (n : ℕ). (kind_of n).targets) (sym l) in
+    sym (ap tested (targets_15 e (plain e _ l c.if-label-eq-SPIDER.false) (inside e _ l (omega arith) (omega arith)) (s ∙ c.if-sources-row.false ∙ sources) (λ q. c.if-targets-row.true (sym t ∙ q ∙ sym targets))))
 
 pub returns : goal.returns
 returns c = λ e l s t.
-    sym (ap tested (part_passes e (plain c e l) (inside c e l) (s ∙ c.if-sources-row.false ∙ row_sources c e l) (t ∙ c.if-targets-row.false ∙ row_targets c e l)))
+    let sources : c.kind_row-row.result.sources ≡ (kind_of e.label).sources = ap (λ (r : KindRow). r.sources) c.kind_row-row.ensures ∙ ap (λ (n : ℕ). (kind_of n).sources) (sym l) in
+    let targets : c.kind_row-row.result.targets ≡ (kind_of e.label).targets = ap (λ (r : KindRow). r.targets) c.kind_row-row.ensures ∙ ap (λ (n : ℕ). (kind_of n).targets) (sym l) in
+    sym (ap tested (part_passes e (plain e _ l c.if-label-eq-SPIDER.false) (inside e _ l (omega arith) (omega arith)) (s ∙ c.if-sources-row.false ∙ sources) (t ∙ c.if-targets-row.false ∙ targets)))

@@ -45,7 +45,7 @@ returns c =
     let p = c.peel-last in
     let X = words p.new.room in
     let above : a.from ≤ p.result = omega (arith, later_2 c) in (
-      record { went = p.ensures; later_2 = above },
+      record { went = p.ensures; later = above },
       c.put_freed.ensures
           ∙ ap (λ (ys : List ℕ). freed_all a.nodes a.kind a.stage ys a.out.now) (waited_part X a.n a.from p.result above p.ensures.few (omega arith) (omega (arith, length_words p.new.room, p.auto.room))),
     )

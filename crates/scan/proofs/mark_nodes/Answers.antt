@@ -33,7 +33,7 @@ nodes_tested c = (
 )
 
 sizes : (c : After-stages-arg-1) → c.test_all-gone.result + c.settle-more.result + size (left (vertex_count (graph_of c.args.src.now)) c.settle-more.new.room) ≡ vertex_count (graph_of c.args.src.now)
-sizes c = first_size (graph_of c.args.src.now) (drawn c.requires.stored.0) (ids c) c.prepare.new.room long c.prepare.ensures c.test_all-gone.new.room c.test_all-gone.result nodes_tested.0 nodes_tested.1
+sizes c = first_size (graph_of c.args.src.now) (drawn c.requires.stored.0) (ids c) c.prepare.new.room (long c) c.prepare.ensures c.test_all-gone.new.room c.test_all-gone.result (nodes_tested c).0 (nodes_tested c).1
     c.settle-more.new.room c.settle-more.result c.settle-more.ensures
 
 -- the ids of the list
@@ -51,7 +51,7 @@ nodes_tested_2 c = (
 )
 
 begun : (c : After-slice_known-5-1) → Begun (ids_2 c) (graph_of c.args.src.now) c.settle-more.new.room (c.test_all-gone.result + c.settle-more.result)
-begun c = first_begun (graph_of c.args.src.now) (drawn c.requires.stored.0) (ids_2 c) c.prepare.new.room long_2 c.prepare.ensures c.test_all-gone.new.room c.test_all-gone.result nodes_tested_2.0 nodes_tested_2.1
+begun c = first_begun (graph_of c.args.src.now) (drawn c.requires.stored.0) (ids_2 c) c.prepare.new.room (long_2 c) c.prepare.ensures c.test_all-gone.new.room c.test_all-gone.result (nodes_tested_2 c).0 (nodes_tested_2 c).1
     c.settle-more.new.room c.settle-more.result c.settle-more.ensures
 
 pub test_all-gone-requires : goal.test_all-gone-requires

@@ -74,7 +74,7 @@ plan_2 c = ready_plan c.requires (sizes_4 c) (fits_2 c).counts.nodes
 -- the buffer after what was copied
 laid : (c : After-rewrite_all-arg-2-1) → Laid (merged_of c.args.src.now) c.args.nodes c.args.z.edges c.result_sizes-y.result (table_of c.args.room.now) c.put_copied.new.out
 laid c = record {
-  plan_2 = plan_2 c;
+  plan = plan_2 c;
   copied = copied_done (plan_2 c) c.args.out.now (buffer_2 c) refl (c.put_copied.ensures c.args.nodes (table_of c.args.room.now) (plan_2 c));
   count = sym (merged_edges c.requires.mapped);
 }
@@ -99,7 +99,7 @@ plan_3 c = ready_plan c.requires (sizes_5 c) (fits_3 c).counts.nodes
 -- the buffer after what was copied
 laid_2 : (c : After-slice_known-5-1) → Laid (merged_of c.args.src.now) c.args.nodes c.args.z.edges c.result_sizes-y.result (table_of c.args.room.now) c.put_copied.new.out
 laid_2 c = record {
-  plan_3 = plan_3 c;
+  plan = plan_3 c;
   copied = copied_done (plan_3 c) c.args.out.now (buffer_3 c) refl (c.put_copied.ensures c.args.nodes (table_of c.args.room.now) (plan_3 c));
   count = sym (merged_edges c.requires.mapped);
 }
