@@ -55,6 +55,9 @@ overflow_add-start c = omega (arith, (stands_2 c).four)
 pub overflow_add-end : goal.overflow_add-end
 overflow_add-end c = omega (arith, (stands_2 c).inside, c.get4-n.ensures)
 
+pub slice_bounds-add_drawing-end : goal.slice_bounds-add_drawing-end
+slice_bounds-add_drawing-end c = omega (arith, (stands_2 c).inside, c.get4-n.ensures)
+
 pub add_drawing-t-requires : goal.add_drawing-t-requires
 add_drawing-t-requires c =
     (sofar_upto (clean_3 c) c.requires.0 c.loop-at.invariant.0 c.loop-at-test.true, omega (arith, c.loop-at.invariant.1, c.requires.1))
