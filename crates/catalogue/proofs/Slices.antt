@@ -2,7 +2,7 @@
 -- Assumes nothing.
 use mathlib.Core.Path.{◌≡◌, refl, sym, ap, ◌∙◌, subst}
 use mathlib.Core.Bool.{Bool, true, false, cond}
-use mathlib.Core.List.{List, [], ◌∷◌, ◌++◌, append_assoc}
+use mathlib.Core.List.{List, ◌∷◌, ◌++◌, append_assoc}
 use mathlib.Core.Logic.{◌↔◌}
 use Prim.Native.Nat.{ℕ, zero, suc, ◌+◌, ◌-◌, ◌^◌, ◌≤◌, ◌<◌}
 use native.Mathlib.Nat.{not-suc-le-zero}
@@ -11,8 +11,8 @@ use lib.Dec.{eqb, leb}
 use lib.ListN.{length, get_or, take, drop, length-append, length-take, length-drop, take-append-drop}
 use lib.Seq.{take-append_seam, drop-append_seam, drop-drop, drop-cons}
 use borrow.Author.Tests.{leb-true, le-leb, lt-leb, eqb-true, eq-eqb, ne_eqb}
-use Rattle.le.specs.Le.{Below, bytes, number, number_at}
-use Rattle.le.proofs.Numbers.{below_drop, below_front, below_back, length_bytes, number_take, number_take_below, rejoin_one}
+use Rattle.le.specs.Le.{Below, bytes, number_at}
+use Rattle.le.proofs.Numbers.{below_drop, below_front, below_back, number_take, number_take_below, rejoin_one}
 use Rattle.graph.specs.Lists.{joined}
 use Rattle.graph.specs.Answer.{Answer, refused, answered, Refusal, refusal, ◌else◌, ◌>>=◌, ◌>>◌}
 use Rattle.graph.proofs.Steps.{never, same_answer, passed, came, stops, goes}

@@ -8,7 +8,7 @@ use lib.ListN.{length}
 use borrow.Author.Tests.{leb-true, eqb-true}
 use Rattle.le.specs.Le.{Below}
 use Rattle.graph.specs.Graph.{Graph}
-use Rattle.graph.specs.Answer.{answered, Result, writing, ◌>>=◌, ◌>>◌}
+use Rattle.graph.specs.Answer.{answered, Result, writing, ◌>>◌}
 use Rattle.graph.specs.Calls.{unpaired, fit}
 use Rattle.graph.specs.Versions.{StoredGraph, read}
 use Rattle.graph.proofs.Answers.{worked}

@@ -4,9 +4,9 @@
 use mathlib.Core.Path.{◌≡◌, refl, sym, ap, ◌∙◌, subst}
 use mathlib.Core.Bool.{Bool, true}
 use mathlib.Core.List.Memᴰ
-use mathlib.Core.List.{List, [], ◌∷◌}
+use mathlib.Core.List.{List, ◌∷◌}
 use mathlib.Core.Logic.{◌⊎◌, inl, inr, ◌↔◌}
-use Prim.Native.Nat.{ℕ, zero, suc, ◌+◌, ◌≤◌, ◌<◌}
+use Prim.Native.Nat.{ℕ, zero, suc, ◌≤◌, ◌<◌}
 use native.Mathlib.Nat.{le_refl, zero-lt-suc}
 use native.Mathlib.Decide.{ℕ_discrete}
 use native.Mathlib.Omega.{arith}
@@ -15,7 +15,7 @@ use lib.ListN.{length, length-replicate}
 use Rattle.graph.specs.Graph.{Graph, Proper}
 use Rattle.choice.specs.Arcs.{Arc, In, Set, has, vertices, without, size, passing, Stable, Walk, Cycle, NoCycle}
 use Rattle.choice.specs.Drawing.{arcs, vertex_count, selectable}
-use Rattle.choice.specs.Loop.{lowest, Walked, Loop, none_shown, closed_by, walk_from, loop_in, first_core, loop, since, Lowest, Walks}
+use Rattle.choice.specs.Loop.{lowest, Loop, none_shown, closed_by, walk_from, loop_in, first_core, loop, since, Lowest, Walks}
 use Rattle.choice.specs.Promises.{Shown, NoneOrShown}
 use Rattle.choice.specs.Simple.{Distinct}
 use Rattle.choice.proofs.Sets.{has_lt, gone, stays, size_empty, size_some, size_without, size_vertices}

@@ -1,18 +1,17 @@
 -- The walk of T-12, "Show me one loop": the steps follow the rule, the rule allows one walk only, and its vertices are visited once each.
 -- Assumes nothing.
-use mathlib.Core.Path.{◌≡◌, refl, sym, ap, ◌∙◌, subst}
+use mathlib.Core.Path.{◌≡◌, refl, sym, ap, subst}
 use mathlib.Core.Bool.{Bool, true, false, ◌&&◌, cond}
 use mathlib.Core.List.Memᴰ
-use mathlib.Core.List.{List, [], ◌∷◌}
-use mathlib.Core.Logic.{◌⊎◌, inl, inr, ◌↔◌}
-use Prim.Native.Nat.{ℕ, zero, suc, ◌≤◌, ◌<◌, zero-le, suc-le-suc}
-use native.Mathlib.Nat.{le_refl, le_antisymm, not-suc-le-zero}
+use mathlib.Core.List.{List, ◌∷◌}
+use mathlib.Core.Logic.{◌⊎◌, inl, inr}
+use Prim.Native.Nat.{ℕ, zero, suc, ◌≤◌, zero-le, suc-le-suc}
+use native.Mathlib.Nat.{le_refl, le_antisymm}
 use native.Mathlib.Decide.{ℕ_discrete}
 use native.Mathlib.Omega.{arith}
-use lib.Dec.{T, eqb, eqb→eq, eqb_refl, ltb, ltb→lt, lt→ltb}
-use lib.ListN.{length, get_or, drop}
-use borrow.Author.Tests.{eq-eqb, ne_eqb}
-use Rattle.choice.specs.Arcs.{Arc, arc, In, Leads, how_many, Set, has, without, size, passing, Stable, Walk, Cycle}
+use lib.Dec.{T, eqb, eqb→eq, eqb_refl, ltb→lt, lt→ltb}
+use lib.ListN.{length}
+use Rattle.choice.specs.Arcs.{Arc, arc, In, Leads, Set, has, without, size, passing, Stable, Walk, Cycle}
 use Rattle.choice.proofs.Sets.{and_left, and_right, both, how_many_some, how_many_in, has_passing, kept, passing_subset, gone, without_subset, stays, none_left, size_without}
 use Rattle.choice.proofs.Core.{out_some}
 use Rattle.choice.specs.Loop.{lowest, leads, onward, Walked, closing, visiting, node_step, edge_step, since, Lowest, Walks, closes, goes}

@@ -1,6 +1,6 @@
 -- What an engine needs of arcs and of the choice: the two lists of each vertex, the arcs between two, and what is left to be given.
 -- Assumes nothing.
-use Rattle.std.specs.Prelude.{◌≡◌, Bool, ◌&&◌, cond, List, [], ◌∷◌, ◌⊎◌, ◌↔◌, ℕ, suc, ◌+◌, T, eqb}
+use Rattle.std.specs.Prelude.{Bool, ◌&&◌, cond, List, [], ◌∷◌, ◌⊎◌, ◌↔◌, ℕ, suc, ◌+◌, T, eqb}
 use Rattle.choice.specs.Arcs.{Arc, In, how_many, Set, has, vertices, without, Loose}
 use Rattle.choice.specs.Choice.{Chooses}
 

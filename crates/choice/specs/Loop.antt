@@ -1,7 +1,7 @@
 -- 02, T-12, "Show me one loop": a walk in the first stage's core, and the loop that it closes. First as functions that compute: the node step and the edge
 -- step call each other, and their falling number is the number of unvisited vertices left. Then as a relation.
 -- Assumes nothing.
-use Rattle.std.specs.Prelude.{◌≡◌, Bool, true, false, ◌&&◌, cond, List, [], ◌∷◌, ℕ, zero, suc, ◌≤◌, T, eqb, ltb, length}
+use Rattle.std.specs.Prelude.{Bool, true, false, ◌&&◌, cond, List, [], ◌∷◌, ℕ, zero, suc, ◌≤◌, T, eqb, ltb, length}
 use Rattle.graph.specs.Graph.{Graph}
 use Rattle.choice.specs.Arcs.{Arc, In, Leads, how_many, Set, has, vertices, without, size, passing}
 use Rattle.choice.specs.Choice.{core}

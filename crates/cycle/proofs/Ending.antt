@@ -4,16 +4,15 @@
 use mathlib.Core.Path.{◌≡◌, refl, sym, ap, ◌∙◌, subst}
 use mathlib.Core.Bool.{Bool, true, false, ◌&&◌, cond, not}
 use mathlib.Core.List.Memᴰ
-use mathlib.Core.List.{List, []}
+use mathlib.Core.List.{List}
 use mathlib.Core.Logic.{◌≢◌, inl}
 use Prim.Native.Nat.{ℕ, ◌+◌, ◌*◌, ◌≤◌, ◌<◌}
 use native.Mathlib.Omega.{arith}
 use lib.Dec.{T, eqb, ltb}
-use lib.ListN.{length, get_or, take, replicate, length-replicate, get_or-replicate}
+use lib.ListN.{length, get_or, replicate, length-replicate, get_or-replicate}
 use lib.Seq.{sets, length-sets}
 use borrow.Author.Tests.{ltb-true}
 use Rattle.le.proofs.Tables.{get_d_sets, get_d_sets_before}
-use Rattle.le.proofs.Stores.{take_sets_le}
 use Rattle.form.specs.Form.{numbered}
 use Rattle.form.specs.declared.Step.TheVariants as step
 use Rattle.form.specs.declared.Step.{Step}
@@ -23,7 +22,7 @@ use Rattle.graph.specs.Lists.{among}
 use Rattle.graph.proofs.Steps.{never, same_answer}
 use Rattle.choice.specs.Arcs.{In, has}
 use Rattle.choice.specs.Choice.{Chosen}
-use Rattle.choice.specs.Drawing.{arcs, vertex_count}
+use Rattle.choice.specs.Drawing.{arcs}
 use Rattle.choice.specs.Keeping.{keeping_choice, unkept, chosen_keeping}
 use Rattle.choice.proofs.Keeping.{stuck_refuses}
 use Rattle.halves.specs.Halves.{Halves, Going, times}

@@ -7,7 +7,7 @@ use mathlib.Core.Bool.{Bool}
 use Prim.Native.Nat.{ℕ, ◌+◌, ◌*◌, ◌≤◌, ◌<◌}
 use native.Mathlib.Omega.{arith}
 use lib.ListN.{length, get_or}
-use Rattle.graph.specs.Graph.{Graph, Format, form1, form2, ports, Proper, WellFormed}
+use Rattle.graph.specs.Graph.{Graph, form1, form2, ports, Proper, WellFormed}
 use Rattle.choice.specs.Arcs.{Set, into, out}
 use Rattle.choice.specs.Drawing.{arcs}
 use Rattle.choice.proofs.Fits.{proper_fits}

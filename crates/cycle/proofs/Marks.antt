@@ -1,20 +1,16 @@
 -- The kept nodes, marked in the room one after the other.
 -- Assumes nothing.
-use mathlib.Core.Path.{◌≡◌, refl, sym, ap, ◌∙◌}
+use mathlib.Core.Path.{◌≡◌, refl, ap, ◌∙◌}
 use mathlib.Core.Bool.{Bool, true, false, ◌||◌, cond}
-use mathlib.Core.List.{List, [], ◌∷◌, ◌++◌}
-use mathlib.Core.Logic.{inl}
-use Prim.Native.Nat.{ℕ, ◌+◌, ◌≤◌, ◌<◌}
+use mathlib.Core.List.{List, ◌∷◌, ◌++◌}
+use Prim.Native.Nat.{ℕ, ◌+◌, ◌<◌}
 use native.Mathlib.Omega.{arith}
 use lib.Dec.{eqb}
 use lib.ListN.{length, get_or, set, length-set}
 use lib.Seq.{get_or-set_same, get_or-set_other}
 use borrow.Author.Tests.{eqb-true, eqb-false}
-use Rattle.le.specs.Le.{Below, words}
-use Rattle.le.specs.Rows.{span}
-use Rattle.le.specs.declared.Row.{Row}
 use Rattle.graph.specs.Lists.{among}
-use Rattle.tables.specs.Tables.{most_nodes, picked_at, queue_at}
+use Rattle.tables.specs.Tables.{picked_at}
 use Rattle.cycle.specs.Begin.{kept_marked}
 
 -- one more

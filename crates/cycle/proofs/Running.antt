@@ -3,18 +3,17 @@
 use mathlib.Core.Path.{◌≡◌, refl, sym, ap, ◌∙◌, subst}
 use mathlib.Core.Bool.{Bool}
 use mathlib.Core.List.Memᴰ
-use mathlib.Core.List.{List, [], ◌∷◌}
+use mathlib.Core.List.{List, ◌∷◌}
 use mathlib.Core.Logic.{◌≢◌, inl, ◌↔◌, ⊎_elim}
 use Prim.Native.Nat.{ℕ, ◌+◌, ◌-◌, ◌*◌, ◌≤◌, ◌<◌}
 use native.Mathlib.Decide.{ℕ_discrete}
 use native.Mathlib.Omega.{arith}
-use lib.Dec.{T}
 use lib.ListN.{length, get_or, set}
 use lib.Seq.{get_or-set_same, get_or-set_other}
 use Rattle.tables.specs.Tables.{most_nodes, most_vertices, waiting_at, picked_at, queue_at}
 use Rattle.graph.specs.Answer.{answered, refused, refusal}
-use Rattle.choice.specs.Arcs.{Arc, In, Set, has}
-use Rattle.choice.specs.Choice.{Chosen, Best, Ascends}
+use Rattle.choice.specs.Arcs.{Arc, In, Set}
+use Rattle.choice.specs.Choice.{Chosen, Best}
 use Rattle.choice.specs.Keeping.{keeping_choice}
 use Rattle.choice.specs.Promises.{Bounded}
 use Rattle.choice.proofs.Keeping.{stuck_refuses}

@@ -5,17 +5,16 @@ use mathlib.Core.Bool.{Bool, true, false, cond}
 use mathlib.Core.List.{List}
 use mathlib.Core.Logic.{inl, inr}
 use Prim.Native.Nat.{ℕ, zero, suc, ◌+◌, ◌-◌, ◌*◌, ◌≤◌, ◌<◌}
-use native.Mathlib.Decide.{ℕ_discrete}
 use native.Mathlib.Nat.{le_refl}
 use native.Mathlib.Omega.{arith}
 use lib.Dec.{T, ltb}
 use lib.ListN.{length, get_or, set, take, length-set}
-use lib.Seq.{get_or-set_same, get_or-set_other, ext_get_or, get_or-take, length-take-le}
+use lib.Seq.{get_or-set_other, ext_get_or, get_or-take, length-take-le}
 use borrow.Author.Tests.{ltb-true}
 use Rattle.tables.specs.Tables.{most_nodes, most_vertices, waiting_at, picked_at, queue_at}
 use Rattle.halves.specs.Halves.{Halves, lower_all, peel_from, drop_both, pick}
 use Rattle.halves.proofs.Less.{peel_less, pick_less}
-use Rattle.queue.specs.Keys.{id_of, Queued}
+use Rattle.queue.specs.Keys.{Queued}
 use Rattle.queue.specs.Places.{key_at, keys_in}
 use Rattle.queue.proofs.Stored.{keys_length, keys_at}
 use Rattle.queue.proofs.Nodes.{queue_lowered, top_allowed}

@@ -26,7 +26,6 @@ use Rattle.graph.proofs.Steps.{stops, goes}
 use Rattle.form.specs.Form.{meant_by, tested}
 use Rattle.form.specs.Stored.{graph_of, format_of, Stored}
 use Rattle.form.specs.declared.Sizes.{Sizes}
-use Rattle.form.specs.declared.Outcome.TheVariants as call
 use Rattle.form.specs.declared.Refusal.{Refusal}
 use Rattle.form.specs.declared.Step.TheVariants as step
 use Rattle.form.specs.declared.Step.{Step}

@@ -13,7 +13,7 @@ use Rattle.form.specs.declared.Refusal.{Refusal}
 use Rattle.form.specs.declared.Sizes.{Sizes}
 use Rattle.form.specs.declared.Step.TheVariants as step
 use Rattle.form.specs.declared.Step.{Step}
-use Rattle.graph.specs.Answer.{Answer, refused, Result, ◌else◌, ◌>>=◌, ◌>>◌, refusal}
+use Rattle.graph.specs.Answer.{Answer, refused, Result, ◌else◌, ◌>>=◌, refusal}
 use Rattle.graph.specs.Calls.{unpaired, in_work_room}
 use Rattle.graph.specs.Graph.{Graph}
 use Rattle.graph.specs.Versions as versions

@@ -1,7 +1,7 @@
 -- A call in lent work room on a stored graph without pairs and a list of its nodes: the refusals in their order, and what it comes to.
 -- Assumes nothing.
 use mathlib.Core.List.{List}
-use mathlib.Core.Path.{◌≡◌, sym, ap, ◌∙◌, subst}
+use mathlib.Core.Path.{◌≡◌, sym, ap, ◌∙◌}
 use Prim.Native.Nat.{ℕ}
 use lib.Dec.{leb}
 use lib.ListN.{length}
@@ -13,7 +13,7 @@ use Rattle.form.specs.declared.Refusal.{Refusal}
 use Rattle.form.specs.declared.Sizes.{Sizes}
 use Rattle.form.specs.declared.Step.TheVariants as step
 use Rattle.form.specs.declared.Step.{Step}
-use Rattle.graph.specs.Answer.{Answer, refused, answered, Result, ◌else◌, ◌>>=◌, ◌>>◌, refusal}
+use Rattle.graph.specs.Answer.{Answer, refused, answered, Result, ◌else◌, ◌>>=◌, refusal}
 use Rattle.graph.specs.Calls.{id_list, unpaired, in_work_room}
 use Rattle.graph.specs.Graph.{Graph, Format}
 use Rattle.graph.specs.Versions as versions

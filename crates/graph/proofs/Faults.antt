@@ -2,7 +2,7 @@
 -- The walk is that of the definitions: at each test, what the refusal means if the test fails.
 -- Assumes nothing.
 use mathlib.Core.Bool.{Bool, true, false, cond, false≢true}
-use mathlib.Core.List.{List, [], ◌∷◌, ◌++◌, append_assoc, append-nil}
+use mathlib.Core.List.{List, ◌∷◌, ◌++◌, append_assoc, append-nil}
 use mathlib.Core.Logic.{◌⊎◌, inl, inr, ◌≢◌}
 use mathlib.Core.Path.{◌≡◌, refl, sym, ap, ap₂, ◌∙◌, subst}
 use Prim.Native.Nat.{ℕ, zero, suc, ◌+◌, ◌*◌, ◌-◌, ◌%◌, ◌/◌, ◌^◌, ◌≤◌, ◌<◌, min}
@@ -16,7 +16,7 @@ use Rattle.le.specs.Le.{Below, numbers, number_at}
 use Rattle.le.proofs.Numbers.{below_drop, length_numbers}
 use Rattle.le.proofs.Places.{number_drop, get_d_numbers}
 use Rattle.le.proofs.Rows.{wide_some}
-use Rattle.graph.specs.Answer.{Refusal, refused, answered, ◌carrying◌, ◌else◌, ◌>>=◌, ◌>>◌}
+use Rattle.graph.specs.Answer.{Refusal, refused, answered, ◌carrying◌, ◌>>=◌}
 use Rattle.graph.specs.Calls.{id_list}
 use Rattle.graph.specs.Faults.{limits, count_at, EdgesAt, FirstBad, Fault, cut_header, cut_labels, cut_counts, cut_ids, cut_lists, extra, above, with_sources, with_targets, bad_id, ReadFault, few, unmarked, neither, form, fits_one, ListFault, broken_end, bad_entry}
 use Rattle.graph.specs.Form.{mark, header_bytes, edge_bytes, encode, form_bytes, edges_place, id_places}

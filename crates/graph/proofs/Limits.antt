@@ -1,9 +1,9 @@
 -- Deleting and merging never pass a limit: what is left is no larger than what was there, so none of these calls gives 9.
 -- Assumes nothing.
 use mathlib.Core.Bool.{Bool, true, false, false≢true, not, cond, ◌&&◌}
-use mathlib.Core.List.{List, [], ◌∷◌, ◌++◌, map}
+use mathlib.Core.List.{List, ◌∷◌, ◌++◌, map}
 use mathlib.Core.Path.{◌≡◌, sym, ap, ◌∙◌, subst}
-use Prim.Native.Nat.{ℕ, suc, ◌+◌, ◌≤◌}
+use Prim.Native.Nat.{ℕ, suc, ◌≤◌}
 use native.Mathlib.Omega.{arith}
 use lib.ListN.{length, length-map, length-append}
 use Rattle.le.specs.Le.{Below}

@@ -2,7 +2,7 @@
 -- Assumes nothing.
 use mathlib.Core.Path.{◌≡◌, refl, sym, ap, ◌∙◌, subst}
 use mathlib.Core.List.Memᴰ
-use mathlib.Core.List.{List, [], ◌∷◌, ◌++◌, map}
+use mathlib.Core.List.{List, ◌∷◌, ◌++◌, map}
 use Prim.Native.Nat.{ℕ, zero, suc, ◌+◌, ◌-◌, ◌*◌, ◌≤◌, ◌<◌}
 use native.Mathlib.Omega.{arith}
 use lib.Dec.{eqb}
@@ -14,7 +14,7 @@ use Rattle.choice.proofs.Degrees.{how_many_length}
 use Rattle.tables.specs.Tables.{most_ports}
 use Rattle.removal.specs.Room.{Source, start_of, count_of, form_list}
 use Rattle.removal.proofs.Walks.{formed_length}
-use Rattle.incidence.specs.Incidence.{bump_all, appended, appended_all}
+use Rattle.incidence.specs.Incidence.{bump_all, appended_all}
 use Rattle.incidence.proofs.Counting.{bump_at}
 
 -- no id

@@ -3,7 +3,7 @@
 use mathlib.Core.Path.{◌≡◌, refl, sym, ap, ◌∙◌, subst}
 use mathlib.Core.Bool.{Bool, true, false, ◌&&◌, cond, not}
 use mathlib.Core.List.Memᴰ
-use mathlib.Core.List.{List, [], ◌∷◌, ◌++◌}
+use mathlib.Core.List.{List, ◌∷◌, ◌++◌}
 use mathlib.Core.Logic.{◌⊎◌, inl, inr, ◌≢◌}
 use Prim.Native.Nat.{ℕ, zero, suc, ◌+◌, ◌*◌, ◌≤◌, ◌<◌}
 use native.Mathlib.Nat.{le_refl}
@@ -17,7 +17,7 @@ use borrow.Author.Tests.{ltb-true}
 use Rattle.le.specs.Le.{Outside}
 use Rattle.choice.specs.Arcs.{In}
 use Rattle.choice.specs.Loop.{since}
-use Rattle.tables.specs.Tables.{most_vertices, most_ports, lists_at, waiting_at, picked_at}
+use Rattle.tables.specs.Tables.{most_vertices, waiting_at, picked_at}
 use Rattle.removal.specs.Room.{Source, part, list_in, Lists}
 use Rattle.removal.proofs.Tables.{part_ext, part_snoc, list_same}
 use Rattle.removal.proofs.Walks.{in_get_d}

@@ -1,11 +1,11 @@
 -- Where the walk goes: the lowest live vertex of a list; and in a room that tells a core, the vertex that the definition goes to.
 -- Assumes nothing.
 use mathlib.Core.Path.{◌≡◌, refl, sym, ap, ◌∙◌, subst}
-use mathlib.Core.Bool.{Bool, true, false, ◌&&◌, cond, not}
+use mathlib.Core.Bool.{Bool, true, false, ◌&&◌, cond}
 use mathlib.Core.List.Memᴰ
-use mathlib.Core.List.{List, [], ◌∷◌, ◌++◌, map}
+use mathlib.Core.List.{List, ◌∷◌, ◌++◌, map}
 use mathlib.Core.Logic.{◌⊎◌, inl, inr, ◌≢◌}
-use Prim.Native.Nat.{ℕ, zero, suc, ◌+◌, ◌*◌, ◌/◌, ◌%◌, ◌≤◌, ◌<◌}
+use Prim.Native.Nat.{ℕ, ◌+◌, ◌*◌, ◌/◌, ◌%◌, ◌≤◌, ◌<◌}
 use native.Mathlib.Nat.{le_refl}
 use native.Mathlib.Decide.{ℕ_discrete}
 use native.Mathlib.Omega.{arith}
@@ -15,7 +15,7 @@ use borrow.Author.Tests.{ltb-true, ltb-false, lt-ltb, le-ltb, eq-eqb, ne_eqb}
 use Rattle.le.specs.Rows.{entry, span}
 use Rattle.le.specs.declared.Row.{Row}
 use Rattle.le.proofs.Rows.{span_next}
-use Rattle.choice.specs.Arcs.{Arc, arc, In, Leads, how_many, Set, has, Stable}
+use Rattle.choice.specs.Arcs.{Arc, arc, In, Leads, Set, has}
 use Rattle.choice.specs.Degrees.{between}
 use Rattle.choice.specs.Loop.{onward, Lowest}
 use Rattle.choice.proofs.Core.{out_some}

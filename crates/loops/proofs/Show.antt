@@ -2,19 +2,19 @@
 -- Assumes nothing.
 use mathlib.Core.Path.{◌≡◌, refl, sym, ap, ◌∙◌, subst}
 use mathlib.Core.Bool.{Bool, not}
-use mathlib.Core.List.{List, [], ◌∷◌}
+use mathlib.Core.List.{List, ◌∷◌}
 use mathlib.Core.Logic.{◌⊎◌, inl, inr}
 use Prim.Native.Nat.{ℕ, zero, suc, ◌+◌, ◌-◌, ◌*◌, ◌≤◌, ◌<◌}
 use native.Mathlib.Omega.{arith}
-use lib.Dec.{T, eqb, ltb, ltb→lt, lt→ltb}
-use lib.ListN.{length, get_or, take}
+use lib.Dec.{T, ltb, ltb→lt, lt→ltb}
+use lib.ListN.{length, get_or}
 use lib.Seq.{get_or-take}
 use borrow.Author.Tests.{eq-eqb, ne_eqb}
 use Rattle.graph.specs.Graph.{Graph}
 use Rattle.choice.specs.Arcs.{Arc, In, Leads, IsNode, IsEdge, Set, has, vertices, size, passing}
 use Rattle.choice.specs.Choice.{core}
-use Rattle.choice.specs.Drawing.{arcs, vertex_count, selectable}
-use Rattle.choice.specs.Loop.{lowest, none_shown, Loop, closed_by, walk_from, loop_in, first_core, loop, since, Lowest, Walks, closes, goes}
+use Rattle.choice.specs.Drawing.{arcs}
+use Rattle.choice.specs.Loop.{lowest, none_shown, closed_by, walk_from, loop_in, first_core, loop, since, Walks, closes, goes}
 use Rattle.choice.specs.Simple.{Distinct}
 use Rattle.choice.proofs.Fits.{proper_fits, proper_offers}
 use Rattle.choice.proofs.Sets.{same_test, size_some, size_vertices}

@@ -1,26 +1,25 @@
 -- The steps of the walk over the marks of what was visited, and its start: as the definition's steps over the set of what was not.
 -- Assumes nothing.
 use mathlib.Core.Path.{◌≡◌, refl, sym, ap, ◌∙◌, subst}
-use mathlib.Core.Bool.{Bool, true, false, ◌&&◌, cond, not}
-use mathlib.Core.List.{List, [], ◌∷◌}
+use mathlib.Core.Bool.{Bool, true, false, ◌&&◌, not}
+use mathlib.Core.List.{List}
 use mathlib.Core.Logic.{◌⊎◌, inl, inr, ◌≢◌}
 use Prim.Native.Nat.{ℕ, zero, suc, ◌+◌, ◌-◌, ◌*◌, ◌≤◌, ◌<◌}
-use native.Mathlib.Nat.{eq-zero-or-pos}
 use native.Mathlib.Decide.{ℕ_discrete}
 use native.Mathlib.Omega.{arith}
 use lib.Dec.{T, eqb, ltb, ltb→lt, lt→ltb}
 use lib.ListN.{length, get_or, set, replicate, length-set, length-replicate, get_or-replicate}
 use lib.Seq.{get_or-set_same, get_or-set_other}
-use borrow.Author.Tests.{eq-eqb, ne_eqb, eqb-true}
+use borrow.Author.Tests.{eq-eqb, ne_eqb}
 use Rattle.choice.specs.Arcs.{Arc, Leads, Set, has, without, size, passing}
 use Rattle.choice.specs.Loop.{lowest, onward, Walked, closing, visiting, node_step, edge_step, walk_from, Lowest}
 use Rattle.choice.proofs.Degrees.{is_true, how_many_length}
-use Rattle.choice.proofs.Sets.{and_left, and_right, both, set_ext, gone, without_subset, stays, length_passing, has_passing, size_without, size_some, size_empty}
+use Rattle.choice.proofs.Sets.{and_left, and_right, both, set_ext, gone, without_subset, stays, length_passing, has_passing, size_without}
 use Rattle.choice.proofs.Shown.{first_lowest}
 use Rattle.choice.proofs.Walks.{lowest_only, same_step}
 use Rattle.tables.specs.Tables.{most_vertices}
 use Rattle.removal.specs.Room.{Source}
-use Rattle.loops.specs.Walk.{live_in, next_in, Told, FirstLive, unseen, At, AtNode, AtEdge, rest, Closes, Starting}
+use Rattle.loops.specs.Walk.{live_in, next_in, FirstLive, unseen, At, AtNode, AtEdge, rest, Closes, Starting}
 use Rattle.loops.proofs.Next.{core_low, next_lowest, next_onward}
 
 -- ---- marks

@@ -1,7 +1,7 @@
 -- The range's call as the walk and the report's bytes: where it refuses, and what it writes.
 -- Assumes nothing.
 use mathlib.Core.Bool.{true}
-use mathlib.Core.List.{List, [], ◌∷◌, ◌++◌, map}
+use mathlib.Core.List.{List, ◌++◌, map}
 use mathlib.Core.Path.{◌≡◌, refl, sym, ap, ◌∙◌, subst}
 use Prim.Native.Nat.{ℕ, ◌/◌, ◌%◌, ◌≤◌, ◌<◌}
 use native.Mathlib.Omega.{arith}
@@ -10,7 +10,7 @@ use lib.ListN.{length, length-map}
 use lib.Seq.{sets}
 use borrow.Author.Tests.{le-leb, lt-leb, leb-true, ltb-true}
 use Rattle.le.specs.Le.{Below, bytes}
-use Rattle.graph.specs.Answer.{Answer, refused, answered, Result, refusal, writing, ◌else◌, ◌>>=◌, ◌>>◌}
+use Rattle.graph.specs.Answer.{Answer, refused, answered, Result, refusal, writing, ◌>>=◌}
 use Rattle.graph.specs.Answer as answer
 use Rattle.graph.specs.Calls.{fit, in_work_room}
 use Rattle.graph.specs.Lists.{member}
@@ -24,20 +24,18 @@ use Rattle.form.specs.Form.{refusal_of, meant_by, Gives}
 use Rattle.form.specs.declared.Outcome.TheVariants as call
 use Rattle.form.specs.declared.Refusal.{Refusal}
 use Rattle.form.specs.declared.Step.TheVariants as step
-use Rattle.form.specs.declared.Step.{Step}
 use Rattle.form.proofs.Answers.{gives_done}
 use Rattle.packing.specs.Packed.{Ranged}
 use Rattle.catalogue.specs.Price.{Priced, price, room_price}
 use Rattle.catalogue.specs.Range.{drawings_in, most_drawings, sum_of, is_priced, none, dearest_of, index_of, report_of, report_bytes, range_answer, price_range_call}
 use Rattle.catalogue.specs.RefusedBy.{price_range_refusals}
-use Rattle.catalogue.specs.Slices.{SliceOf}
 use Rattle.price.specs.Totals.{forms_of, totals_of, Upto, front_of, amounts_of, ranging}
 use Rattle.price.specs.declared.range.Totals.{Totals}
 use Rattle.price.specs.declared.range.Ranging.{Ranging}
 use Rattle.price.proofs.Adding.{prices_good, totals_upto, meant_back}
 use Rattle.price.proofs.Along.{forms_of_lem}
 use Rattle.catalogue.proofs.Calls.{in_room}
-use Rattle.catalogue.proofs.Slices.{Clean, forms_clean, drawings_back, drawings_17}
+use Rattle.catalogue.proofs.Slices.{forms_clean, drawings_back, drawings_17}
 
 -- ---- what the walk answered
 

@@ -1,12 +1,12 @@
 -- The range from what the caller holds: the returned number and the bytes of the lent buffers, beside those of single calls.
 -- Assumes nothing.
 use mathlib.Core.Path.{◌≡◌, refl, sym, ap, ◌∙◌, subst}
-use mathlib.Core.Bool.{Bool, true, false, cond}
-use mathlib.Core.List.{List, [], ◌∷◌, ◌++◌, map}
+use mathlib.Core.Bool.{Bool, true, false}
+use mathlib.Core.List.{List, ◌∷◌, ◌++◌, map}
 use mathlib.Core.Logic.{◌↔◌}
 use Prim.Native.Nat.{ℕ, suc, ◌+◌, ◌*◌, ◌/◌, ◌%◌, ◌≤◌, ◌<◌}
 use native.Mathlib.Omega.{arith}
-use lib.Dec.{eqb, leb}
+use lib.Dec.{leb}
 use lib.ListN.{length, drop, length-map}
 use borrow.Author.Tests.{eq-eqb, ne_eqb, leb-true, leb-false}
 use Rattle.le.specs.Le.{Below}
@@ -17,7 +17,7 @@ use Rattle.graph.proofs.Steps.{never, same_refusal}
 use Rattle.graph.proofs.Verdicts.{in_room, no_room}
 use Rattle.choice.specs.Arcs.{bump, how_many}
 use Rattle.packing.specs.Packed.{packed, Returns, Ranged}
-use Rattle.packing.specs.Unpacked.{code_in, a_in}
+use Rattle.packing.specs.Unpacked.{code_in}
 use Rattle.packing.proofs.Caller.{answer_of_lem, kept}
 use Rattle.packing.proofs.Unpacked.{code_of_packed}
 use Rattle.catalogue.specs.Caller.{counts_in, buffers_in, total_in}
@@ -27,7 +27,7 @@ use Rattle.catalogue.specs.Promises.{cost, sum}
 use Rattle.catalogue.specs.Range.{most_drawings, drawings_in, sum_of, is_priced, refused_by, Dearest, none, dearer_of, dearest_of, index_of, nth_count, refusal_numbers, Report, report_of, report_bytes, range_answer, price_range_call}
 use Rattle.catalogue.specs.Slices.{SliceOf}
 use Rattle.catalogue.specs.ToldRange.{report_in, Single, told_by, Singles, told, ToldRange}
-use Rattle.price.proofs.Adding.{AllGood, prices_good, price_number}
+use Rattle.price.proofs.Adding.{prices_good, price_number}
 use Rattle.price.proofs.Called.{report_long, range_call_answer, range_ranged, range_refused, range_short, range_written}
 use Rattle.catalogue.proofs.Caller.{counts_back, buffers_back, total_back}
 use Rattle.catalogue.proofs.Calls.{call_refused, call_written}

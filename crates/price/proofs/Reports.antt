@@ -1,19 +1,18 @@
 -- What a report is worth: each drawing is counted once, the sum is what the parts and buffers of the range cost, with none priced all is zero, and each number is read back from its field.
 -- Assumes nothing.
 use mathlib.Core.Path.{◌≡◌, refl, sym, ap, ◌∙◌, subst}
-use mathlib.Core.Bool.{Bool, true, false, cond}
-use mathlib.Core.List.{List, [], ◌∷◌, ◌++◌, map}
+use mathlib.Core.List.{List, ◌∷◌, ◌++◌, map}
 use mathlib.Core.Logic.{◌⊎◌, inl, inr}
 use Prim.Native.Nat.{ℕ, zero, suc, ◌+◌, ◌-◌, ◌*◌, ◌/◌, ◌%◌, ◌^◌, ◌≤◌, ◌<◌}
 use native.Mathlib.Nat.{le_refl, lt_irrefl, not-suc-le-zero, suc-ne-zero, eq-zero-or-pos, zero-add, add-zero, zero-div, zero-mod, mod-lt, div-le_self, div-add-mod'}
 use native.Mathlib.Omega.{arith}
 use lib.Dec.{eqb}
-use lib.ListN.{length, get_or, drop}
+use lib.ListN.{length, get_or}
 use borrow.Author.Tests.{eq-eqb, ne_eqb}
 use Rattle.le.specs.Le.{bytes, row}
 use Rattle.le.proofs.Numbers.{below_widen, number_bytes, numbers_row}
 use Rattle.graph.specs.Lists.{range}
-use Rattle.graph.specs.Answer.{Answer, refused, answered, Refusal, reply}
+use Rattle.graph.specs.Answer.{Answer, refused, answered}
 use Rattle.choice.specs.Arcs.{bump, how_many}
 use Rattle.catalogue.specs.Dearests.{PricedAt, first, later, FirstDearest}
 use Rattle.catalogue.specs.Price.{Kind, catalogue, buffer_price, Priced}

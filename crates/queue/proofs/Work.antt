@@ -3,7 +3,7 @@
 use mathlib.Core.Path.{◌≡◌, refl, sym, ap, ◌∙◌}
 use mathlib.Core.Bool.{Bool, ◌&&◌}
 use mathlib.Core.List.Memᴰ
-use mathlib.Core.List.{List, [], ◌∷◌}
+use mathlib.Core.List.{List, ◌∷◌}
 use mathlib.Core.Logic.{◌⊎◌, inl, inr, ◌≢◌}
 use Prim.Native.Nat.{ℕ, zero, suc, ◌+◌, ◌-◌, ◌*◌, ◌≤◌, ◌<◌}
 use native.Mathlib.Decide.{dec_le}
@@ -11,7 +11,7 @@ use native.Mathlib.Nat.{lt_of_not-le, le_refl, mul-div_cancel_left, zero-mul, eq
 use native.Mathlib.Omega.{arith}
 use lib.Dec.{T, eqb}
 use lib.ListN.{length, get_or}
-use Rattle.choice.specs.Arcs.{Arc, arc, bump, how_many, Set, has, into, out}
+use Rattle.choice.specs.Arcs.{Arc, bump, how_many, Set, has, into, out}
 use Rattle.halves.specs.Halves.{sum_to}
 use Rattle.halves.proofs.Lists.{pos_of}
 use Rattle.halves.proofs.Sums.{sum_same, sum_add, sum_none, sum_one, sum_zero, bump_plus}

@@ -2,9 +2,9 @@
 -- Assumes nothing.
 use mathlib.Core.Path.{◌≡◌, refl, sym, ap, ◌∙◌, subst}
 use mathlib.Core.Bool.{Bool, true, false, ◌&&◌, cond, not}
-use mathlib.Core.List.{List, [], ◌∷◌}
+use mathlib.Core.List.{List, ◌∷◌}
 use mathlib.Core.Logic.{◌≢◌}
-use Prim.Native.Nat.{ℕ, zero, suc, ◌+◌, ◌-◌, ◌*◌, ◌≤◌, ◌<◌, zero-le, suc-le-suc}
+use Prim.Native.Nat.{ℕ, zero, suc, ◌+◌, ◌*◌, ◌≤◌, ◌<◌, zero-le, suc-le-suc}
 use native.Mathlib.Decide.{ℕ_discrete}
 use native.Mathlib.Omega.{arith}
 use lib.Dec.{T, eqb, ltb}
@@ -12,7 +12,7 @@ use lib.ListN.{length, get_or, set, take, length-set}
 use lib.Seq.{get_or-set_same, get_or-set_other, take-set-lt}
 use borrow.Author.Tests.{eq-eqb, ne_eqb, ltb-true}
 use Rattle.choice.specs.Arcs.{bump, how_many, Set, vertices, size, passing}
-use Rattle.halves.specs.Halves.{vertex, mate, live, Halves, lower, lower_all, peel_from, drop_both, pick}
+use Rattle.halves.specs.Halves.{vertex, mate, live, Halves, lower_all, peel_from, drop_both, pick}
 use Rattle.halves.proofs.Less.{set_less}
 use Rattle.tables.specs.Tables.{most_vertices, waiting_at, picked_at}
 use Rattle.removal.specs.Room.{Source, part, halves_in, list_in, AllLow, Roomy, Went, Lists}

@@ -3,15 +3,15 @@
 use mathlib.Core.Path.{◌≡◌, refl, ap, ◌∙◌}
 use mathlib.Core.Bool.{Bool, true, false, cond}
 use mathlib.Core.List.Memᴰ
-use mathlib.Core.List.{List, [], ◌∷◌, ◌++◌}
+use mathlib.Core.List.{List, ◌∷◌, ◌++◌}
 use mathlib.Core.Logic.{◌⊎◌, inl, inr}
-use Prim.Native.Nat.{ℕ, ◌+◌, ◌-◌, ◌*◌, ◌<◌}
+use Prim.Native.Nat.{ℕ, ◌-◌, ◌*◌, ◌<◌}
 use native.Mathlib.Omega.{arith}
 use lib.Dec.{eqb}
 use lib.ListN.{length, get_or, set, length-set, length-append}
 use borrow.Author.Tests.{eqb-true, eqb-false}
 use Rattle.choice.specs.Arcs.{In, size}
-use Rattle.halves.specs.Halves.{mate, live, Halves, lower, lower_all}
+use Rattle.halves.specs.Halves.{mate, Halves, lower, lower_all}
 use Rattle.halves.proofs.Lists.{live_same}
 use Rattle.halves.proofs.Marks.{keeps_zero, keeps_back, keeps_same, goes_paired, goes_live}
 use Rattle.removal.specs.Room.{AllLow, Roomy}

@@ -4,7 +4,7 @@ use mathlib.Core.List.{List}
 use mathlib.Core.Path.{◌≡◌, refl, sym, ◌∙◌, subst}
 use Prim.Native.Nat.{ℕ, ◌≤◌}
 use lib.ListN.{length}
-use Rattle.graph.specs.Answer.{Answer, refused, answered, Result, writing, ◌>>◌}
+use Rattle.graph.specs.Answer.{Answer, refused, answered, Result, writing}
 use Rattle.graph.specs.Calls.{Next, made, on_nothing, on_graph}
 use Rattle.graph.specs.Form.{encode, label_row, body}
 use Rattle.graph.specs.Graph.{Graph, Format}

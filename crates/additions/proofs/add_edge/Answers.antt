@@ -16,7 +16,6 @@ use Rattle.ledger.specs.Ledger.{drawing, Draws, more, ports_of, edge_ports}
 use Rattle.ledger.proofs.Added.{edge_added, draws_as}
 use Rattle.ledger.proofs.Rooms.{ports_then}
 use native.Mathlib.Omega.{arith}
-use borrow.Author.Rules.{rules}
 use Rattle.additions.proofs.add_edge.Goals as goal
 
 pub overflow_mul-half : goal.overflow_mul-half

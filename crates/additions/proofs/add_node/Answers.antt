@@ -1,14 +1,12 @@
 -- `additions::add_node` meets its contract.
 -- Assumes nothing.
-use mathlib.Core.List.{List, [], ◌∷◌}
+use mathlib.Core.List.{List, ◌∷◌}
 use mathlib.Core.Path.{sym, subst}
 use Prim.Native.Nat.{ℕ}
 use Rattle.le.specs.Le.{words}
 use Rattle.graph.specs.Build.{new_node}
 use Rattle.ledger.specs.Ledger.{drawing, Draws, more}
 use Rattle.ledger.proofs.Added.{nodes_added}
-use native.Mathlib.Omega.{arith}
-use borrow.Author.Rules.{rules}
 use Rattle.additions.proofs.add_node.Goals as goal
 
 pub returns : goal.returns

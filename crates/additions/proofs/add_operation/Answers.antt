@@ -17,7 +17,6 @@ use Rattle.ledger.specs.Ledger.{drawing, Draws, more, ports_of, edge_ports}
 use Rattle.ledger.proofs.Added.{operation_added, draws_as}
 use Rattle.ledger.proofs.Rooms.{ports_then}
 use native.Mathlib.Omega.{arith}
-use borrow.Author.Rules.{rules}
 use Rattle.additions.proofs.add_operation.Goals as goal
 
 pub overflow_mul-half : goal.overflow_mul-half

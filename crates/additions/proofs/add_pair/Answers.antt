@@ -7,8 +7,6 @@ use Rattle.le.specs.Le.{words}
 use Rattle.graph.specs.Build.{unify}
 use Rattle.ledger.specs.Ledger.{drawing, Draws, more}
 use Rattle.ledger.proofs.Added.{pair_added}
-use native.Mathlib.Omega.{arith}
-use borrow.Author.Rules.{rules}
 use Rattle.additions.proofs.add_pair.Goals as goal
 
 pub returns : goal.returns

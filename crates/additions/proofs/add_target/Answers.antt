@@ -1,6 +1,6 @@
 -- `additions::add_target` meets its contract.
 -- Assumes nothing.
-use mathlib.Core.List.{List, [], ◌∷◌}
+use mathlib.Core.List.{List, ◌∷◌}
 use mathlib.Core.Path.{◌≡◌, sym, ap, ◌∙◌, subst}
 use Prim.Native.Nat.{ℕ, ◌+◌, ◌*◌}
 use lib.ListN.{set}
@@ -11,7 +11,6 @@ use Rattle.ledger.specs.Tables.{log_at, labels_at}
 use Rattle.ledger.specs.Ledger.{drawing, Draws, more}
 use Rattle.ledger.proofs.Added.{target_added}
 use native.Mathlib.Omega.{arith}
-use borrow.Author.Rules.{rules}
 use Rattle.additions.proofs.add_target.Goals as goal
 
 pub overflow_mul-edge : goal.overflow_mul-edge

@@ -2,10 +2,9 @@
 -- Assumes nothing.
 use mathlib.Core.List.{List}
 use mathlib.Core.Path.{◌≡◌, refl, sym, ap, ◌∙◌}
-use Prim.Native.Nat.{◌-◌, ◌*◌, ◌≤◌}
+use Prim.Native.Nat.{◌-◌, ◌*◌}
 use native.Mathlib.Nat.{le_antisymm}
 use lib.ListN.{length}
-use Rattle.le.specs.Le.{words}
 use Rattle.graph.specs.Graph.{Edge}
 use Rattle.graph.specs.Build.{with_edges}
 use Rattle.graph.specs.Form.{edge_start}
@@ -13,9 +12,7 @@ use Rattle.graph.proofs.Rows.{edge_start_all}
 use Rattle.form.specs.Stored.{graph_of}
 use Rattle.form.specs.declared.Sizes.{Sizes}
 use Rattle.write.proofs.Edges.{all_edges, edges_end}
-use Rattle.ledger.specs.Ledger.{Draws}
 use Rattle.ledger.proofs.Added.{draws_as}
-use Rattle.additions.specs.Loaded.{without_edges, loaded_to}
 use native.Mathlib.Omega.{arith}
 use Rattle.additions.proofs.load.Goals as goal
 

@@ -1,22 +1,13 @@
 -- What the loops of `additions::load` keep.
 -- Assumes nothing.
-use mathlib.Core.List.{List}
-use mathlib.Core.Path.{◌≡◌, refl, sym, ap, ◌∙◌}
+use mathlib.Core.Path.{◌≡◌}
 use Prim.Native.Nat.{◌-◌, ◌*◌, ◌≤◌}
-use native.Mathlib.Nat.{le_antisymm}
 use lib.ListN.{length}
 use Rattle.le.specs.Le.{words}
-use Rattle.graph.specs.Graph.{Edge}
-use Rattle.graph.specs.Build.{with_edges}
 use Rattle.graph.specs.Form.{edge_start}
-use Rattle.graph.proofs.Rows.{edge_start_all}
 use Rattle.form.specs.Stored.{graph_of}
-use Rattle.form.specs.declared.Sizes.{Sizes}
-use Rattle.write.proofs.Edges.{all_edges, edges_end}
 use Rattle.ledger.specs.Ledger.{Draws}
-use Rattle.ledger.proofs.Added.{draws_as}
 use Rattle.additions.specs.Loaded.{without_edges, loaded_to}
-use native.Mathlib.Omega.{arith}
 use Rattle.additions.proofs.load.Given as goal
 
 abbrev pub invariant-loop-i : goal.invariant-loop-i

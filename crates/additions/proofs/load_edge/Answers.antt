@@ -17,7 +17,6 @@ use Rattle.form.proofs.Stored.{stored_rows}
 use Rattle.write.proofs.Edges.{Met, met, edge_held, edge_less}
 use Rattle.additions.proofs.Loads.{start_ports, start_few, edge_label, edge_loaded}
 use native.Mathlib.Omega.{arith}
-use borrow.Author.Rules.{rules}
 use Rattle.additions.proofs.load_edge.Goals as goal
 use Rattle.additions.proofs.load_edge.Goals.{After-add_edge-arg-1, After-number-label, After-slice_known-2-1}
 

@@ -17,7 +17,6 @@ use Rattle.ledger.specs.Ledger.{Draws}
 use Rattle.additions.specs.Loaded.{without_edges, loaded_to}
 use Rattle.additions.proofs.Loads.{lists_loaded}
 use native.Mathlib.Omega.{arith}
-use borrow.Author.Rules.{rules}
 use Rattle.additions.proofs.load_lists.Goals as goal
 
 pub body_row-body-requires : goal.body_row-body-requires

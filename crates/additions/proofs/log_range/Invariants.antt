@@ -1,18 +1,13 @@
 -- What the loops of `additions::log_range` keep.
 -- Assumes nothing.
-use mathlib.Core.List.{List, [], ◌∷◌}
-use mathlib.Core.Path.{◌≡◌, refl, sym, ap, ◌∙◌}
-use Prim.Native.Nat.{ℕ, ◌+◌, ◌-◌, ◌*◌, ◌≤◌}
-use native.Mathlib.Nat.{le_antisymm}
+use mathlib.Core.Path.{◌≡◌}
+use Prim.Native.Nat.{◌+◌, ◌-◌, ◌*◌, ◌≤◌}
 use lib.ListN.{length}
 use lib.Seq.{sets}
 use Rattle.le.specs.Le.{words}
 use Rattle.graph.specs.Lists.{flat, range}
-use Rattle.graph.proofs.Lists.{length_range, range_add}
 use Rattle.ledger.specs.Tables.{log_at}
 use Rattle.ledger.specs.Ledger.{ports_of}
-use Rattle.ledger.proofs.Rooms.{port_next}
-use native.Mathlib.Omega.{arith}
 use Rattle.additions.proofs.log_range.Given as goal
 
 abbrev pub invariant-loop-k : goal.invariant-loop-k

@@ -6,8 +6,6 @@ use Prim.Native.Nat.{ℕ, ◌+◌}
 use native.Mathlib.Numerals.{add-one}
 use lib.ListN.{set}
 use Rattle.le.specs.Le.{words}
-use native.Mathlib.Omega.{arith}
-use borrow.Author.Rules.{rules}
 use Rattle.additions.proofs.put_pair.Goals as goal
 
 pub returns : goal.returns

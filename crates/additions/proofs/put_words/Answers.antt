@@ -9,7 +9,6 @@ use Rattle.le.proofs.Numbers.{below_each, below_widen}
 use Rattle.le.proofs.Rows.{length_span, span_below, wide_low}
 use Rattle.ledger.proofs.Rooms.{words_puts}
 use native.Mathlib.Omega.{arith}
-use borrow.Author.Rules.{rules}
 use Rattle.additions.proofs.put_words.Goals as goal
 
 pub copy_numbers-requires : goal.copy_numbers-requires

@@ -19,7 +19,6 @@ use Rattle.ledger.proofs.Added.{drawn_edges}
 use Rattle.build.proofs.Counts.{drawing_sized, target_sized}
 use Rattle.build.proofs.Steps.{grown_within, step_stops, step_nine, step_done}
 use native.Mathlib.Omega.{arith}
-use borrow.Author.Rules.{rules}
 use Rattle.build.proofs.add_edge_target.Goals as goal
 use Rattle.build.proofs.add_edge_target.Goals.{After-get4-2, After-refusal, After-slice_known-2-1, In_default-turn}
 

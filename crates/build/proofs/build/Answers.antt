@@ -23,7 +23,6 @@ use Rattle.build.specs.Turns.{stop_in}
 use Rattle.build.specs.declared.Led.TheVariants as led
 use Rattle.build.proofs.Whole.{built_short, built_enough, leads_graph, leads_stop, steps_stopped, steps_made, stopped_gives, refused_gives, done_gives, gives_as, fitted_sizes, redrawn}
 use native.Mathlib.Omega.{arith}
-use borrow.Author.Rules.{rules}
 use Rattle.build.proofs.build.Goals as goal
 use Rattle.build.proofs.build.Goals.{After-link-arg-1, After-load-arg-1, After-put_drawing-arg-1, After-refusal, After-refusal-in_default-size, After-slice_known-6-1, After-stop, After-turns-arg-1}
 

@@ -22,7 +22,6 @@ use Rattle.steps.proofs.Singly.{known_all_same, known_all_below}
 use Rattle.build.proofs.Lists.{span_numbers, list_held}
 use Rattle.build.proofs.Steps.{step_stops, step_drawn}
 use native.Mathlib.Omega.{arith}
-use borrow.Author.Rules.{rules}
 use Rattle.build.proofs.delete_edges.Goals as goal
 use Rattle.build.proofs.delete_edges.Goals.{After-refusal, After-row_at, After-slice_known-2-1}
 

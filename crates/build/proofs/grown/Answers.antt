@@ -8,8 +8,6 @@ use Rattle.graph.specs.Graph.{largest, sizes_fit}
 use Rattle.form.specs.Form.{counts_of}
 use Rattle.ledger.specs.Ledger.{more}
 use Rattle.build.specs.declared.Stepped.TheVariants as turned
-use native.Mathlib.Omega.{arith}
-use borrow.Author.Rules.{rules}
 use Rattle.build.proofs.grown.Goals as goal
 use Rattle.build.proofs.grown.Goals.{Else-not-sizes_fit, Then-not-sizes_fit}
 

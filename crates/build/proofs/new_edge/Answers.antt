@@ -23,7 +23,6 @@ use Rattle.steps.proofs.Singly.{known_all_same, known_all_below}
 use Rattle.build.proofs.Lists.{span_numbers, list_held}
 use Rattle.build.proofs.Steps.{grown_within, step_stops, step_nine, step_done}
 use native.Mathlib.Omega.{arith}
-use borrow.Author.Rules.{rules}
 use Rattle.build.proofs.new_edge.Goals as goal
 use Rattle.build.proofs.new_edge.Goals.{After-refusal, After-refusal-in_default-to, After-row_at, After-slice_known-2-1, In-Number-to, In_default-turn}
 

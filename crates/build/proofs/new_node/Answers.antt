@@ -12,7 +12,6 @@ use Rattle.ledger.specs.Ledger.{drawing, Draws, more}
 use Rattle.build.proofs.Counts.{drawing_sized, node_sized}
 use Rattle.build.proofs.Steps.{grown_within, step_nine, step_done}
 use native.Mathlib.Omega.{arith}
-use borrow.Author.Rules.{rules}
 use Rattle.build.proofs.new_node.Goals as goal
 
 node : (l : ℕ) (g : Graph) → stepped (node_step l) g ≡ answered (new_node l g)

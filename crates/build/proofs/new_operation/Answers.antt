@@ -20,7 +20,6 @@ use Rattle.build.proofs.Counts.{Sized, drawing_sized, operation_sized}
 use Rattle.build.proofs.Lists.{span_numbers, list_held}
 use Rattle.build.proofs.Steps.{grown_within, step_nine, step_done}
 use native.Mathlib.Omega.{arith}
-use borrow.Author.Rules.{rules}
 use Rattle.build.proofs.new_operation.Goals as goal
 
 given : (l : ℕ) (s t : List ℕ) (g : Graph) → stepped (operation_step l s t) g ≡ answered (new_operation l s t g)

@@ -1,14 +1,13 @@
 -- `build::step_at` meets its contract.
 -- Assumes nothing.
 use mathlib.Core.Path.{sym, ◌∙◌, subst}
-use Prim.Native.Nat.{ℕ, ◌+◌, ◌*◌, ◌-◌}
+use Prim.Native.Nat.{ℕ, ◌+◌, ◌*◌}
 use lib.ListN.{get_or, drop}
 use Rattle.steps.specs.Steps.{read_step}
 use Rattle.build.specs.Turns.{Finds}
 use Rattle.build.specs.declared.Found.TheVariants as found
 use Rattle.build.proofs.Finding.{unknown, head_cut, lists_cut, whole}
 use native.Mathlib.Omega.{arith}
-use borrow.Author.Rules.{rules}
 use Rattle.build.proofs.step_at.Goals as goal
 
 pub returns-then-n-eq0 : goal.returns-then-n-eq0

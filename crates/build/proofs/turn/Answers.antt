@@ -9,7 +9,6 @@ use Rattle.ledger.specs.Ledger.{drawing}
 use Rattle.build.specs.Turns.{Turned}
 use Rattle.build.proofs.ByKind.{node_kind, edge_kind, operation_kind, pair_kind, source_kind, target_kind, edges_kind, nodes_kind, last_kind}
 use native.Mathlib.Omega.{arith}
-use borrow.Author.Rules.{rules}
 use Rattle.build.proofs.turn.Goals as goal
 
 pub new_node-requires : goal.new_node-requires

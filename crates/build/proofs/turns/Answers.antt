@@ -1,20 +1,19 @@
 -- `build::turns` meets its contract.
 -- Assumes nothing.
 use mathlib.Core.Path.{◌≡◌, refl, sym, ap, ◌∙◌}
-use Prim.Native.Nat.{◌+◌, ◌-◌, ◌≤◌}
-use lib.ListN.{length, drop, get_or}
+use Prim.Native.Nat.{◌+◌}
+use lib.ListN.{drop, get_or}
 use Rattle.le.specs.Le.{words}
 use Rattle.graph.specs.Graph.{Graph}
 use Rattle.steps.specs.Steps.{read_step, steps_in}
 use Rattle.steps.specs.Calls as calls
-use Rattle.ledger.specs.Ledger.{drawing, Sound}
+use Rattle.ledger.specs.Ledger.{drawing}
 use Rattle.build.specs.Turns.{refusal_found, refusal_turned}
 use Rattle.build.specs.declared.Found.TheVariants as found
 use Rattle.build.specs.declared.Stepped.TheVariants as turned
 use Rattle.build.proofs.Finding.{FoundStep, finds_step, finds_refused}
 use Rattle.build.proofs.Loop.{turned_drawn, turned_stopped, first_cut, first_refused, first_done, none_left, leads_stopped, leads_to}
 use native.Mathlib.Omega.{arith}
-use borrow.Author.Rules.{rules}
 use Rattle.build.proofs.turns.Goals as goal
 use Rattle.build.proofs.turns.Goals.{After-refusal-in_default-next, After-turn-arg-1, In-Next}
 

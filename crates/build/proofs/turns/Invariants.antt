@@ -1,20 +1,12 @@
 -- What the loops of `build::turns` keep.
 -- Assumes nothing.
-use mathlib.Core.Path.{◌≡◌, refl, sym, ap, ◌∙◌}
-use Prim.Native.Nat.{◌+◌, ◌-◌, ◌≤◌}
-use lib.ListN.{length, drop, get_or}
+use mathlib.Core.Path.{◌≡◌}
+use Prim.Native.Nat.{◌-◌, ◌≤◌}
+use lib.ListN.{length, drop}
 use Rattle.le.specs.Le.{words}
-use Rattle.graph.specs.Graph.{Graph}
-use Rattle.steps.specs.Steps.{read_step, steps_in}
+use Rattle.steps.specs.Steps.{steps_in}
 use Rattle.steps.specs.Calls as calls
 use Rattle.ledger.specs.Ledger.{drawing, Sound}
-use Rattle.build.specs.Turns.{refusal_found, refusal_turned}
-use Rattle.build.specs.declared.Found.TheVariants as found
-use Rattle.build.specs.declared.Stepped.TheVariants as turned
-use Rattle.build.proofs.Finding.{FoundStep, finds_step, finds_refused}
-use Rattle.build.proofs.Loop.{turned_drawn, turned_stopped, first_cut, first_refused, first_done, none_left, leads_stopped, leads_to}
-use native.Mathlib.Omega.{arith}
-use borrow.Author.Rules.{rules}
 use Rattle.build.proofs.turns.Given as goal
 
 abbrev pub invariant-loop-at : goal.invariant-loop-at

@@ -19,7 +19,6 @@ use Rattle.ledger.proofs.Added.{drawn_nodes}
 use Rattle.build.proofs.Counts.{drawing_sized, pair_sized}
 use Rattle.build.proofs.Steps.{grown_within, step_stops, step_nine, step_done, known_same}
 use native.Mathlib.Omega.{arith}
-use borrow.Author.Rules.{rules}
 use Rattle.build.proofs.unify.Goals as goal
 use Rattle.build.proofs.unify.Goals.{After-add_pair-arg-1, After-refusal, After-refusal-in_default-second, After-slice_known-2-1, In_default-turn}
 

@@ -1,14 +1,13 @@
 -- `classes::agree` meets its contract.
 -- Assumes nothing.
-use mathlib.Core.Bool.{true}
-use mathlib.Core.Path.{◌≡◌, sym, ◌∙◌}
-use Prim.Native.Nat.{ℕ, ◌-◌, ◌≤◌, ◌<◌}
+use mathlib.Core.Path.{sym, ◌∙◌}
+use Prim.Native.Nat.{◌<◌}
 use native.Mathlib.Nat.{le_antisymm}
 use native.Mathlib.Omega.{arith}
 use borrow.Author.Count.{below_more}
 use borrow.Author.Tests.{not-true, not-false}
 use Rattle.le.specs.Le.{words}
-use Rattle.classes.proofs.Labels.{same_at, all_agree, one_differs}
+use Rattle.classes.proofs.Labels.{all_agree, one_differs}
 use Rattle.classes.proofs.agree.Goals as goal
 
 pub loop-v-init : goal.loop-v-init

@@ -4,7 +4,7 @@ use mathlib.Core.Path.{◌≡◌, refl, sym, ◌∙◌, subst}
 use Prim.Native.Nat.{ℕ, ◌≤◌, ◌<◌}
 use native.Mathlib.Omega.{arith}
 use mathlib.Core.List.{List}
-use lib.ListN.{length, get_or, set}
+use lib.ListN.{get_or, set}
 use Rattle.le.specs.Le.{words}
 use Rattle.classes.specs.Forest.{Climbed}
 use Rattle.classes.proofs.Trees.{words_fit, climb_start, climb_inside, climb_step, climb_done}

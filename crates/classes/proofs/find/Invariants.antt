@@ -1,13 +1,9 @@
 -- What the loops of `classes::find` keep.
 -- Assumes nothing.
-use mathlib.Core.Path.{◌≡◌, refl, sym, ◌∙◌, subst}
-use Prim.Native.Nat.{ℕ, ◌≤◌, ◌<◌}
-use native.Mathlib.Omega.{arith}
-use mathlib.Core.List.{List}
-use lib.ListN.{length, get_or, set}
+use mathlib.Core.Path.{◌≡◌}
+use lib.ListN.{length, get_or}
 use Rattle.le.specs.Le.{words}
 use Rattle.classes.specs.Forest.{Climbed}
-use Rattle.classes.proofs.Trees.{words_fit, climb_start, climb_inside, climb_step, climb_done}
 use Rattle.classes.proofs.find.Given as goal
 
 abbrev pub invariant-loop-p : goal.invariant-loop-p

@@ -1,7 +1,6 @@
 -- `classes::find_leaders` meets its contract.
 -- Assumes nothing.
 use native.Mathlib.Omega.{arith}
-use borrow.Author.Rules.{rules}
 use Rattle.classes.proofs.find_leaders.Goals as goal
 
 pub join_all-requires : goal.join_all-requires

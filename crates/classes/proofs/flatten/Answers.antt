@@ -1,11 +1,10 @@
 -- `classes::flatten` meets its contract.
 -- Assumes nothing.
 use mathlib.Core.List.{List}
-use mathlib.Core.Path.{◌≡◌, refl, sym, ◌∙◌, subst}
-use Prim.Native.Nat.{◌+◌, ◌-◌, ◌≤◌, ◌<◌}
+use mathlib.Core.Path.{refl, sym, ◌∙◌, subst}
+use Prim.Native.Nat.{◌+◌, ◌≤◌, ◌<◌}
 use native.Mathlib.Nat.{le_antisymm}
 use native.Mathlib.Omega.{arith}
-use lib.ListN.{length}
 use Rattle.le.specs.Le.{words}
 use Rattle.classes.specs.Forest.{Flattened}
 use Rattle.classes.proofs.Trees.{words_fit, flat_start, flat_low, flat_turn, flat_done}

@@ -1,14 +1,10 @@
 -- What the loops of `classes::flatten` keep.
 -- Assumes nothing.
-use mathlib.Core.List.{List}
-use mathlib.Core.Path.{◌≡◌, refl, sym, ◌∙◌, subst}
-use Prim.Native.Nat.{◌+◌, ◌-◌, ◌≤◌, ◌<◌}
-use native.Mathlib.Nat.{le_antisymm}
-use native.Mathlib.Omega.{arith}
+use mathlib.Core.Path.{◌≡◌}
+use Prim.Native.Nat.{◌-◌, ◌≤◌}
 use lib.ListN.{length}
 use Rattle.le.specs.Le.{words}
 use Rattle.classes.specs.Forest.{Flattened}
-use Rattle.classes.proofs.Trees.{words_fit, flat_start, flat_low, flat_turn, flat_done}
 use Rattle.classes.proofs.flatten.Given as goal
 
 abbrev pub invariant-loop-v : goal.invariant-loop-v

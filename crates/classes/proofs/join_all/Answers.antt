@@ -1,9 +1,8 @@
 -- `classes::join_all` meets its contract.
 -- Assumes nothing.
 use mathlib.Core.Path.{◌≡◌, refl, sym, ◌∙◌, subst}
-use Prim.Native.Nat.{ℕ, ◌+◌, ◌-◌, ◌≤◌, ◌<◌}
+use Prim.Native.Nat.{ℕ, ◌+◌, ◌-◌, ◌<◌}
 use native.Mathlib.Omega.{arith}
-use lib.ListN.{length}
 use Rattle.le.specs.Le.{words}
 use Rattle.le.proofs.Rows.{holds_less, holds_index}
 use Rattle.classes.proofs.Pairs.{JoinedFrom, pair_ends, pairs_start, pairs_turn}

@@ -1,12 +1,10 @@
 -- What the loops of `classes::join_all` keep.
 -- Assumes nothing.
-use mathlib.Core.Path.{◌≡◌, refl, sym, ◌∙◌, subst}
-use Prim.Native.Nat.{ℕ, ◌+◌, ◌-◌, ◌≤◌, ◌<◌}
-use native.Mathlib.Omega.{arith}
+use mathlib.Core.Path.{◌≡◌}
+use Prim.Native.Nat.{◌≤◌}
 use lib.ListN.{length}
 use Rattle.le.specs.Le.{words}
-use Rattle.le.proofs.Rows.{holds_less, holds_index}
-use Rattle.classes.proofs.Pairs.{JoinedFrom, pair_ends, pairs_start, pairs_turn}
+use Rattle.classes.proofs.Pairs.{JoinedFrom}
 use Rattle.classes.proofs.join_all.Given as goal
 
 abbrev pub invariant-loop-j : goal.invariant-loop-j

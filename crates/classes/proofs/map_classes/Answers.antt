@@ -1,7 +1,6 @@
 -- `classes::map_classes` meets its contract.
 -- Assumes nothing.
 use native.Mathlib.Omega.{arith}
-use borrow.Author.Rules.{rules}
 use Rattle.le.specs.Le.{words}
 use Rattle.form.proofs.Stored.{stored_rows}
 use Rattle.classes.proofs.Maps.{map_unpaired}

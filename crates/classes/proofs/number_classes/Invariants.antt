@@ -1,14 +1,10 @@
 -- What the loops of `classes::number_classes` keep.
 -- Assumes nothing.
-use mathlib.Core.Path.{◌≡◌, refl, ◌∙◌, subst}
-use Prim.Native.Nat.{ℕ, ◌-◌, ◌≤◌, ◌<◌}
-use native.Mathlib.Nat.{le_antisymm}
-use native.Mathlib.Omega.{arith}
+use mathlib.Core.Path.{◌≡◌}
+use Prim.Native.Nat.{◌-◌, ◌≤◌}
 use lib.ListN.{length}
 use Rattle.le.specs.Le.{words}
 use Rattle.classes.specs.Forest.{Counted}
-use Rattle.classes.proofs.Numbering.{count_start, count_low, count_turn, count_done}
-use Rattle.classes.proofs.Trees.{words_fit}
 use Rattle.classes.proofs.number_classes.Given as goal
 
 abbrev pub invariant-loop-k : goal.invariant-loop-k

@@ -1,6 +1,5 @@
 -- `classes::number_one` meets its contract.
 -- Assumes nothing.
-use borrow.Author.Rules.{rules}
 use Rattle.le.specs.Le.{words}
 use Rattle.classes.proofs.Numbering.{number_own, number_other}
 use Rattle.classes.proofs.number_one.Goals as goal

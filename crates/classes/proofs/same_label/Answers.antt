@@ -3,7 +3,6 @@
 use mathlib.Core.Path.{ap, ◌∙◌}
 use native.Mathlib.Omega.{arith}
 use lib.Dec.{eqb}
-use borrow.Author.Rules.{rules}
 use Rattle.le.specs.Rows.{entry}
 use Rattle.le.proofs.Rows.{holds_less}
 use Rattle.classes.proofs.same_label.Goals as goal

@@ -1,10 +1,8 @@
 -- `classes::start` meets its contract.
 -- Assumes nothing.
-use mathlib.Core.Path.{◌≡◌, refl, ◌∙◌}
-use Prim.Native.Nat.{ℕ, ◌-◌, ◌≤◌, ◌<◌}
+use mathlib.Core.Path.{refl, ◌∙◌}
 use native.Mathlib.Nat.{le_antisymm}
 use native.Mathlib.Omega.{arith}
-use lib.ListN.{length, get_or}
 use Rattle.le.specs.Le.{words}
 use Rattle.classes.proofs.Trees.{words_fit, own_more, range_forest}
 use Rattle.classes.proofs.start.Goals as goal

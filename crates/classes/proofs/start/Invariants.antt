@@ -1,12 +1,9 @@
 -- What the loops of `classes::start` keep.
 -- Assumes nothing.
-use mathlib.Core.Path.{◌≡◌, refl, ◌∙◌}
+use mathlib.Core.Path.{◌≡◌}
 use Prim.Native.Nat.{ℕ, ◌-◌, ◌≤◌, ◌<◌}
-use native.Mathlib.Nat.{le_antisymm}
-use native.Mathlib.Omega.{arith}
 use lib.ListN.{length, get_or}
 use Rattle.le.specs.Le.{words}
-use Rattle.classes.proofs.Trees.{words_fit, own_more, range_forest}
 use Rattle.classes.proofs.start.Given as goal
 
 abbrev pub invariant-loop-k : goal.invariant-loop-k

@@ -1,13 +1,12 @@
 -- `copying::count_edges` meets its contract.
 -- Assumes nothing.
 use mathlib.Core.List.{List}
-use mathlib.Core.Path.{◌≡◌, refl, ap, ◌∙◌}
-use Prim.Native.Nat.{ℕ, ◌+◌, ◌-◌, ◌≤◌, ◌<◌}
+use mathlib.Core.Path.{refl, ap, ◌∙◌}
+use Prim.Native.Nat.{ℕ, ◌+◌, ◌≤◌, ◌<◌}
 use lib.ListN.{length, take}
 use Rattle.form.specs.Form.{body_of}
 use Rattle.form.specs.Stored.{graph_of}
 use Rattle.form.proofs.Stored.{stored_rows, stored_known}
-use Rattle.graph.specs.Form.{edge_start}
 use Rattle.graph.specs.Graph.{Edge, edge_entries}
 use Rattle.graph.specs.Lists.{keep}
 use Rattle.le.proofs.Rows.{holds_index, length_span}
@@ -15,7 +14,6 @@ use Rattle.links.specs.Links.{cells, is_listed}
 use Rattle.links.proofs.Cells.{keep_more}
 use Rattle.rewriting.specs.Rewriting.{ids_at}
 use Rattle.rewriting.proofs.Lists.{EdgeRead, edge_row_lem, edge_held, edge_read, rows_stored, rows_held, edges_counted, all_edges, keep_few}
-use borrow.Author.Rules.{rules}
 use native.Mathlib.Omega.{arith}
 use Rattle.copying.proofs.count_edges.Goals as goal
 use Rattle.copying.proofs.count_edges.Goals.{After-count_part-count, After-struct_known-1, In-loop-i}

@@ -11,7 +11,6 @@ use Rattle.copying.specs.Merged.{table_of}
 use Rattle.copying.proofs.Merging.{edges_looked, lists_looked, known_edges, known_lists}
 use Rattle.rewriting.proofs.Parts.{lists_are, lists_read, fresh_few}
 use Rattle.copying.proofs.Ready.{plain_nodes, plain_fresh, heads}
-use borrow.Author.Rules.{rules}
 use native.Mathlib.Omega.{arith}
 use Rattle.copying.proofs.count_fresh.Goals as goal
 use Rattle.copying.proofs.count_fresh.Goals.{After-count_edges-arg-1, After-count_part, After-count_part-arg-1}

@@ -2,13 +2,12 @@
 -- Assumes nothing.
 use mathlib.Core.List.{List}
 use mathlib.Core.Path.{◌≡◌, refl, ap, ◌∙◌}
-use Prim.Native.Nat.{ℕ, ◌+◌, ◌-◌, ◌≤◌, ◌<◌}
+use Prim.Native.Nat.{ℕ, ◌+◌, ◌≤◌, ◌<◌}
 use lib.ListN.{length, take, length-append}
 use Rattle.form.specs.Form.{body_of}
 use Rattle.form.specs.Stored.{graph_of}
 use Rattle.form.specs.declared.Sizes.{Sizes}
 use Rattle.form.proofs.Stored.{stored_rows, stored_known}
-use Rattle.graph.specs.Form.{edge_start}
 use Rattle.graph.specs.Graph.{Edge, edge_entries}
 use Rattle.graph.specs.Lists.{keep}
 use Rattle.graph.specs.Merge.{looked}
@@ -19,7 +18,6 @@ use Rattle.links.proofs.Cells.{keep_more}
 use Rattle.rewriting.specs.Rewriting.{ids_at}
 use Rattle.rewriting.proofs.Lists.{EdgeRead, edge_row_lem, edge_held, edge_read, rows_stored, rows_held, edges_counted, all_edges}
 use Rattle.copying.proofs.Mapping.{looked_append, looked_part, entries_within}
-use borrow.Author.Rules.{rules}
 use native.Mathlib.Omega.{arith}
 use Rattle.copying.proofs.count_merged_edges.Goals as goal
 use Rattle.copying.proofs.count_merged_edges.Goals.{After-count_merged_part-count, After-struct_known-1, In-loop-i}

@@ -1,26 +1,15 @@
 -- What the loops of `copying::count_merged_edges` keep.
 -- Assumes nothing.
-use mathlib.Core.List.{List}
-use mathlib.Core.Path.{◌≡◌, refl, ap, ◌∙◌}
-use Prim.Native.Nat.{ℕ, ◌+◌, ◌-◌, ◌≤◌, ◌<◌}
-use lib.ListN.{length, take, length-append}
-use Rattle.form.specs.Form.{body_of}
+use mathlib.Core.Path.{◌≡◌}
+use Prim.Native.Nat.{ℕ, ◌-◌, ◌≤◌}
+use lib.ListN.{length, take}
 use Rattle.form.specs.Stored.{graph_of}
-use Rattle.form.specs.declared.Sizes.{Sizes}
-use Rattle.form.proofs.Stored.{stored_rows, stored_known}
 use Rattle.graph.specs.Form.{edge_start}
-use Rattle.graph.specs.Graph.{Edge, edge_entries}
+use Rattle.graph.specs.Graph.{edge_entries}
 use Rattle.graph.specs.Lists.{keep}
 use Rattle.graph.specs.Merge.{looked}
 use Rattle.le.specs.Le.{Below, words}
-use Rattle.le.proofs.Rows.{holds_index, length_span}
 use Rattle.links.specs.Links.{cells, is_listed}
-use Rattle.links.proofs.Cells.{keep_more}
-use Rattle.rewriting.specs.Rewriting.{ids_at}
-use Rattle.rewriting.proofs.Lists.{EdgeRead, edge_row_lem, edge_held, edge_read, rows_stored, rows_held, edges_counted, all_edges}
-use Rattle.copying.proofs.Mapping.{looked_append, looked_part, entries_within}
-use borrow.Author.Rules.{rules}
-use native.Mathlib.Omega.{arith}
 use Rattle.copying.proofs.count_merged_edges.Given as goal
 
 abbrev pub invariant-loop-i : goal.invariant-loop-i

@@ -1,8 +1,8 @@
 -- `copying::count_merged_part` meets its contract.
 -- Assumes nothing.
-use mathlib.Core.List.{List, [], ◌∷◌, ◌++◌}
+use mathlib.Core.List.{List, ◌∷◌, ◌++◌}
 use mathlib.Core.Path.{◌≡◌, refl, sym, ap, ◌∙◌}
-use Prim.Native.Nat.{ℕ, ◌+◌, ◌-◌, ◌≤◌, ◌<◌}
+use Prim.Native.Nat.{ℕ, ◌+◌, ◌<◌}
 use native.Mathlib.Nat.{le_antisymm}
 use lib.ListN.{length, get_or}
 use Rattle.graph.specs.Lists.{keep}
@@ -14,7 +14,6 @@ use Rattle.links.specs.Links.{cells, is_listed}
 use Rattle.links.proofs.Cells.{keep_more}
 use Rattle.write.proofs.Grows.{entry_below}
 use Rattle.copying.proofs.Mapping.{looked_next, class_below}
-use borrow.Author.Rules.{rules}
 use native.Mathlib.Omega.{arith}
 use Rattle.copying.proofs.count_merged_part.Goals as goal
 use Rattle.copying.proofs.count_merged_part.Goals.{After-number-id, After-one_if_listed-count, After-word-class, In-loop-i}

@@ -1,21 +1,13 @@
 -- What the loops of `copying::count_merged_part` keep.
 -- Assumes nothing.
-use mathlib.Core.List.{List, [], ◌∷◌, ◌++◌}
-use mathlib.Core.Path.{◌≡◌, refl, sym, ap, ◌∙◌}
-use Prim.Native.Nat.{ℕ, ◌+◌, ◌-◌, ◌≤◌, ◌<◌}
-use native.Mathlib.Nat.{le_antisymm}
-use lib.ListN.{length, get_or}
+use mathlib.Core.Path.{◌≡◌}
+use Prim.Native.Nat.{ℕ, ◌-◌, ◌≤◌}
+use lib.ListN.{length}
 use Rattle.graph.specs.Lists.{keep}
 use Rattle.graph.specs.Merge.{looked}
 use Rattle.le.specs.Le.{Below, words}
-use Rattle.le.specs.Rows.{Holds, entry, span}
-use Rattle.le.proofs.Rows.{holds_less, holds_index}
+use Rattle.le.specs.Rows.{span}
 use Rattle.links.specs.Links.{cells, is_listed}
-use Rattle.links.proofs.Cells.{keep_more}
-use Rattle.write.proofs.Grows.{entry_below}
-use Rattle.copying.proofs.Mapping.{looked_next, class_below}
-use borrow.Author.Rules.{rules}
-use native.Mathlib.Omega.{arith}
 use Rattle.copying.proofs.count_merged_part.Given as goal
 
 abbrev pub invariant-loop-i : goal.invariant-loop-i

@@ -14,7 +14,6 @@ use Rattle.write.proofs.Results.{room_same}
 use Rattle.rewriting.specs.Rewriting.{spidered, fronted}
 use Rattle.copying.specs.Merged.{merged_of}
 use Rattle.copying.proofs.Ready.{plain, rows_fit, same_sources, same_targets}
-use borrow.Author.Rules.{rules}
 use Rattle.copying.proofs.put_copied.Goals as goal
 use Rattle.copying.proofs.put_copied.Goals.{After-slice_known-3-1, After-slice_known-then-z-eq0-1}
 

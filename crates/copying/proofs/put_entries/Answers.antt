@@ -12,7 +12,6 @@ use Rattle.le.proofs.Rows.{holds_less, holds_same}
 use Rattle.rewriting.specs.Rewriting.{ids_at}
 use Rattle.rewriting.proofs.Lists.{rows_size, rows_stored}
 use Rattle.rewriting.proofs.Parts.{lists_are}
-use borrow.Author.Rules.{rules}
 use native.Mathlib.Omega.{arith}
 use Rattle.copying.proofs.put_entries.Goals as goal
 

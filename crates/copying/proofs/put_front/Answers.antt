@@ -2,14 +2,13 @@
 -- Assumes nothing.
 use mathlib.Core.List.{List}
 use mathlib.Core.Path.{◌≡◌, ◌∙◌}
-use Prim.Native.Nat.{ℕ, ◌+◌, ◌-◌, ◌≤◌}
+use Prim.Native.Nat.{ℕ, ◌+◌, ◌≤◌}
 use lib.ListN.{length}
 use Rattle.form.proofs.Stored.{stored_rows}
 use Rattle.le.specs.Rows.{Holds}
 use Rattle.le.proofs.Rows.{holds_less, holds_same}
 use Rattle.rewriting.proofs.Parts.{planned}
 use Rattle.copying.proofs.Merging.{merged_edges, merged_front}
-use borrow.Author.Rules.{rules}
 use native.Mathlib.Omega.{arith}
 use Rattle.copying.proofs.put_front.Goals as goal
 use Rattle.copying.proofs.put_front.Goals.{After-copy_numbers-arg-1, After-struct_known-4-1}

@@ -1,6 +1,5 @@
 -- `copying::put_merged_entries` meets its contract.
 -- Assumes nothing.
-use mathlib.Core.Path.{◌∙◌}
 use Rattle.le.proofs.Rows.{holds_less}
 use Rattle.write.proofs.Results.{room_same}
 use Rattle.copying.proofs.Merging.{merged_entries}

@@ -7,7 +7,6 @@ use Rattle.graph.specs.Graph.{Graph}
 use Rattle.le.specs.Rows.{span, puts}
 use Rattle.le.proofs.Rows.{holds_less}
 use Rattle.copying.proofs.Ready.{plain, plain_nodes}
-use borrow.Author.Rules.{rules}
 use native.Mathlib.Omega.{arith}
 use Rattle.copying.proofs.put_node_labels.Goals as goal
 

@@ -1,8 +1,8 @@
 -- `copying::put_renamed_lists` meets its contract.
 -- Assumes nothing.
-use mathlib.Core.List.{List, [], ◌∷◌}
+use mathlib.Core.List.{List, ◌∷◌}
 use mathlib.Core.Path.{◌≡◌, refl, sym, ap, ◌∙◌}
-use Prim.Native.Nat.{ℕ, ◌+◌, ◌-◌, ◌≤◌, ◌<◌}
+use Prim.Native.Nat.{ℕ, ◌+◌, ◌<◌}
 use lib.ListN.{length, get_or, length-map}
 use Rattle.form.specs.Form.{body_of, lists_from}
 use Rattle.form.proofs.Stored.{stored_rows}
@@ -13,7 +13,6 @@ use Rattle.le.proofs.Rows.{holds_less, holds_same, holds_index, length_span, len
 use Rattle.write.proofs.Grows.{entry_below}
 use Rattle.copying.proofs.Mapping.{looked_next}
 use Rattle.rewriting.proofs.Parts.{lists_are, lists_read}
-use borrow.Author.Rules.{rules}
 use native.Mathlib.Omega.{arith}
 use Rattle.copying.proofs.put_renamed_lists.Goals as goal
 use Rattle.copying.proofs.put_renamed_lists.Goals.{After-number-id, After-put_number-arg-1, In-loop-i}

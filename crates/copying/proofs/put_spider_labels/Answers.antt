@@ -1,8 +1,8 @@
 -- `copying::put_spider_labels` meets its contract.
 -- Assumes nothing.
-use mathlib.Core.List.{[], ◌∷◌}
+use mathlib.Core.List.{◌∷◌}
 use mathlib.Core.Path.{◌≡◌, sym, ap, ◌∙◌}
-use Prim.Native.Nat.{ℕ, ◌+◌, ◌-◌, ◌≤◌}
+use Prim.Native.Nat.{ℕ, ◌+◌}
 use native.Mathlib.Nat.{le_antisymm}
 use lib.ListN.{length, replicate, length-replicate, replicate-append-replicate}
 use Rattle.graph.specs.Graph.{spider}

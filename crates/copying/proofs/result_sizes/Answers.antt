@@ -12,7 +12,6 @@ use Rattle.write.specs.Write.{counted_as, fitted}
 use Rattle.copying.specs.Merged.{table_of, merged_of}
 use Rattle.copying.proofs.Merging.{merged_counted}
 use Rattle.copying.proofs.Ready.{nodes_few, heads}
-use borrow.Author.Rules.{rules}
 use native.Mathlib.Omega.{arith}
 use Rattle.copying.proofs.result_sizes.Goals as goal
 

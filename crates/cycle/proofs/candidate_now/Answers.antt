@@ -5,7 +5,6 @@ use native.Mathlib.Nat.{mul-le-mul}
 use native.Mathlib.Omega.{arith}
 use Rattle.queue.specs.Keys.{radix}
 use Rattle.cycle.specs.Next.{candidate_of}
-use borrow.Author.Rules.{rules}
 use Rattle.cycle.proofs.candidate_now.Goals as goal
 use Rattle.cycle.proofs.candidate_now.Goals.{After-word-outdegree}
 

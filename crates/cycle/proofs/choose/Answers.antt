@@ -5,7 +5,6 @@ use mathlib.Core.Path.{◌≡◌, sym, ap, subst}
 use Prim.Native.Nat.{ℕ}
 use native.Mathlib.Omega.{arith}
 use lib.ListN.{length}
-use borrow.Author.Rules.{rules}
 use Rattle.form.specs.Form.{Gives}
 use Rattle.form.specs.Stored.{graph_of, format_of}
 use Rattle.form.specs.declared.Sizes.{Sizes}

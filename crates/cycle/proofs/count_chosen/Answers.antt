@@ -1,11 +1,9 @@
 -- `cycle::count_chosen` meets its contract.
 -- Assumes nothing.
-use mathlib.Core.List.{[]}
 use mathlib.Core.Path.{◌≡◌}
 use Prim.Native.Nat.{◌+◌}
 use native.Mathlib.Omega.{arith}
 use lib.ListN.{length}
-use borrow.Author.Rules.{rules}
 use Rattle.choice.specs.Drawing.{chosen}
 use Rattle.form.specs.Stored.{graph_of}
 use Rattle.form.proofs.Stored.{stored_rows}

@@ -4,7 +4,6 @@ use mathlib.Core.Path.{◌≡◌, sym, ◌∙◌, subst}
 use Prim.Native.Nat.{ℕ, ◌≤◌}
 use native.Mathlib.Omega.{arith}
 use lib.ListN.{length}
-use borrow.Author.Rules.{rules}
 use Rattle.choice.specs.Calls.{listing, room_cycle_breaking_nodes, cycle_broken, cycle_breaking_nodes_call}
 use Rattle.choice.specs.Drawing.{chosen}
 use Rattle.form.specs.Form.{Gives}

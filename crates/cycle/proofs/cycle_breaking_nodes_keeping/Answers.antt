@@ -4,7 +4,6 @@ use mathlib.Core.List.{List}
 use mathlib.Core.Path.{◌≡◌, sym, subst}
 use Prim.Native.Nat.{ℕ, ◌≤◌}
 use lib.ListN.{length}
-use borrow.Author.Rules.{rules}
 use Rattle.choice.specs.Calls.{listing, room_cycle_breaking_nodes, cycle_broken_keeping, cycle_breaking_nodes_keeping_call}
 use Rattle.choice.specs.Keeping.{chosen_keeping}
 use Rattle.form.specs.Form.{Gives}

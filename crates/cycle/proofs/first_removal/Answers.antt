@@ -1,6 +1,6 @@
 -- `cycle::first_removal` meets its contract.
 -- Assumes nothing.
-use mathlib.Core.Path.{◌≡◌, sym, subst}
+use mathlib.Core.Path.{sym, subst}
 use Prim.Native.Nat.{◌+◌, ◌-◌, ◌≤◌}
 use native.Mathlib.Omega.{arith}
 use lib.ListN.{length}
@@ -14,7 +14,6 @@ use Rattle.tables.specs.Tables.{picked_at}
 use Rattle.removal.specs.Room.{source, halves_in, list_in, Went, Lists}
 use Rattle.incidence.proofs.Facts.{facts}
 use Rattle.cycle.proofs.Begin.{drawn, seeded_roomy, seeded_lists, first}
-use borrow.Author.Rules.{rules}
 use Rattle.cycle.proofs.first_removal.Goals as goal
 
 pub overflow_add-n : goal.overflow_add-n

@@ -1,7 +1,6 @@
 -- `cycle::flag_nodes` meets its contract.
 -- Assumes nothing.
-use mathlib.Core.Path.{◌≡◌, sym, ap, ◌∙◌, subst}
-use mathlib.Core.List.{[]}
+use mathlib.Core.Path.{◌≡◌, sym, ap, subst}
 use mathlib.Core.Logic.{⊎_elim}
 use Prim.Native.Nat.{ℕ, ◌+◌, ◌*◌, ◌≤◌, ◌<◌}
 use native.Mathlib.Nat.{eq-zero-or-pos}
@@ -20,7 +19,6 @@ use Rattle.incidence.proofs.Facts.{facts}
 use Rattle.cycle.specs.Stage.{Standing, Underway, Answered}
 use Rattle.cycle.proofs.Begin.{drawn}
 use Rattle.cycle.proofs.Ending.{all_gone, still_small, none_marked, none_queued, standing, underway, all_flagged}
-use borrow.Author.Rules.{rules}
 use Rattle.cycle.proofs.flag_nodes.Goals as goal
 
 positive : {k : ℕ} → (k ≡ 0 → ⊥) → 0 < k

@@ -2,7 +2,7 @@
 -- Assumes nothing.
 use mathlib.Core.Logic.{⊎_elim}
 use mathlib.Core.Path.{◌≡◌, refl, sym, ap, ◌∙◌, subst}
-use Prim.Native.Nat.{ℕ, ◌+◌, ◌-◌, ◌*◌, ◌≤◌, ◌<◌}
+use Prim.Native.Nat.{ℕ, ◌+◌, ◌*◌, ◌≤◌, ◌<◌}
 use native.Mathlib.Nat.{eq-or-lt_of_le, eq-zero-or-pos}
 use native.Mathlib.Omega.{arith}
 use lib.ListN.{length, get_or}
@@ -17,10 +17,10 @@ use Rattle.choice.specs.Keeping.{keeping_choice}
 use Rattle.graph.specs.Answer.{Answer, answered, refused, refusal}
 use Rattle.graph.proofs.Steps.{never, same_answer}
 use Rattle.cycle.specs.Next.{may, degrees_in}
-use Rattle.cycle.specs.Stage.{Standing, Underway, Flagged, free_of}
+use Rattle.cycle.specs.Stage.{Underway, Flagged, free_of}
 use Rattle.cycle.proofs.May.{may_low}
 use Rattle.cycle.proofs.Staging.{next_allowed, next_standing}
-use Rattle.cycle.proofs.Running.{Run, run_start, run_few, run_stuck, run_turn, run_done}
+use Rattle.cycle.proofs.Running.{run_start, run_few, run_stuck, run_turn, run_done}
 use Rattle.cycle.proofs.greedy_feedback_nodes.Goals as goal
 use Rattle.cycle.proofs.greedy_feedback_nodes.Goals.{After-loop-last, After-slice_known-in-loop-last-1, After-slice_known-in-loop-last-2-1, After-stage-arg-1, At-loop-last, Then-word-eq0}
 

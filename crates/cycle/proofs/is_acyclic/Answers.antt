@@ -1,7 +1,6 @@
 -- `cycle::is_acyclic` meets its contract.
 -- Assumes nothing.
-use mathlib.Core.Path.{◌≡◌}
-use Prim.Native.Nat.{◌+◌, ◌-◌}
+use Prim.Native.Nat.{◌+◌}
 use native.Mathlib.Omega.{arith}
 use Rattle.le.specs.Le.{words}
 use Rattle.le.proofs.Places.{length_words}
@@ -10,7 +9,6 @@ use Rattle.form.specs.Stored.{graph_of}
 use Rattle.removal.specs.Room.{source}
 use Rattle.incidence.proofs.Facts.{facts}
 use Rattle.cycle.proofs.Begin.{drawn, no_loop_is}
-use borrow.Author.Rules.{rules}
 use Rattle.cycle.proofs.is_acyclic.Goals as goal
 
 pub overflow_add-result : goal.overflow_add-result

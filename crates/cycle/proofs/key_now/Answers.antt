@@ -8,7 +8,6 @@ use lib.ListN.{get_or}
 use Rattle.le.specs.Le.{words}
 use Rattle.queue.specs.Keys.{radix, key}
 use Rattle.cycle.specs.declared.Candidate.{Candidate}
-use borrow.Author.Rules.{rules}
 use Rattle.cycle.proofs.key_now.Goals as goal
 
 pub pack-requires : goal.pack-requires

@@ -1,11 +1,11 @@
 -- `cycle::mark_kept` meets its contract.
 -- Assumes nothing.
-use mathlib.Core.List.{List, [], ◌∷◌, ◌++◌}
+use mathlib.Core.List.{◌∷◌, ◌++◌}
 use mathlib.Core.Path.{◌≡◌, refl, sym, ap, ◌∙◌, subst}
-use Prim.Native.Nat.{ℕ, ◌+◌, ◌-◌, ◌≤◌, ◌<◌}
+use Prim.Native.Nat.{ℕ, ◌+◌, ◌<◌}
 use native.Mathlib.Nat.{le_antisymm, zero-add}
 use native.Mathlib.Omega.{arith}
-use lib.ListN.{length, get_or, set}
+use lib.ListN.{set}
 use Rattle.le.specs.Le.{words}
 use Rattle.le.specs.Rows.{entry, span}
 use Rattle.le.proofs.Numbers.{below_at}
@@ -13,7 +13,6 @@ use Rattle.le.proofs.Rows.{holds_less, length_span, span_at, span_next}
 use Rattle.tables.specs.Tables.{most_nodes, picked_at}
 use Rattle.cycle.specs.Begin.{kept_marked}
 use Rattle.cycle.proofs.Marks.{marked_next}
-use borrow.Author.Rules.{rules}
 use Rattle.cycle.proofs.mark_kept.Goals as goal
 use Rattle.cycle.proofs.mark_kept.Goals.{After-set_word-arg-1, After-slice_known-in-loop-k-1}
 

@@ -1,19 +1,11 @@
 -- What the loops of `cycle::mark_kept` keep.
 -- Assumes nothing.
-use mathlib.Core.List.{List, [], ◌∷◌, ◌++◌}
-use mathlib.Core.Path.{◌≡◌, refl, sym, ap, ◌∙◌, subst}
-use Prim.Native.Nat.{ℕ, ◌+◌, ◌-◌, ◌≤◌, ◌<◌}
-use native.Mathlib.Nat.{le_antisymm, zero-add}
-use native.Mathlib.Omega.{arith}
-use lib.ListN.{length, get_or, set}
+use mathlib.Core.Path.{◌≡◌}
+use Prim.Native.Nat.{◌-◌, ◌≤◌}
+use lib.ListN.{length}
 use Rattle.le.specs.Le.{words}
-use Rattle.le.specs.Rows.{entry, span}
-use Rattle.le.proofs.Numbers.{below_at}
-use Rattle.le.proofs.Rows.{holds_less, length_span, span_at, span_next}
-use Rattle.tables.specs.Tables.{most_nodes, picked_at}
+use Rattle.le.specs.Rows.{span}
 use Rattle.cycle.specs.Begin.{kept_marked}
-use Rattle.cycle.proofs.Marks.{marked_next}
-use borrow.Author.Rules.{rules}
 use Rattle.cycle.proofs.mark_kept.Given as goal
 
 abbrev pub invariant-loop-k : goal.invariant-loop-k

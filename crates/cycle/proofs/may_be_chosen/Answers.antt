@@ -1,6 +1,5 @@
 -- `cycle::may_be_chosen` meets its contract.
 -- Assumes nothing.
-use borrow.Author.Rules.{rules}
 use Rattle.le.specs.Le.{words}
 use Rattle.cycle.proofs.May.{may_edge, may_unkept, may_flag}
 use Rattle.cycle.proofs.may_be_chosen.Goals as goal

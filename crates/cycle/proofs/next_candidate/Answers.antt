@@ -5,14 +5,11 @@ use Prim.Native.Nat.{◌+◌, ◌*◌, ◌≤◌, ◌<◌}
 use native.Mathlib.Omega.{arith}
 use lib.ListN.{length, get_or}
 use Rattle.le.proofs.Frames.{outside_none, outside_trans}
-use Rattle.queue.specs.Keys.{Queued}
-use Rattle.cycle.specs.Next.{may, degrees_in}
 use Rattle.tables.specs.Tables.{queue_at}
-use Rattle.le.specs.Le.{words, Outside}
+use Rattle.le.specs.Le.{words}
 use Rattle.le.proofs.Places.{length_words}
 use Rattle.queue.specs.Places.{keys_in}
-use Rattle.cycle.proofs.Turning.{sum, Turning, top_read, top_node, degree_small, key_read, heap_here, turn_queued, turn_less, turned}
-use borrow.Author.Rules.{rules}
+use Rattle.cycle.proofs.Turning.{Turning, top_read, top_node, degree_small, key_read, heap_here, turn_queued, turn_less, turned}
 use Rattle.cycle.proofs.next_candidate.Goals as goal
 use Rattle.cycle.proofs.next_candidate.Goals.{After-sink-arg-1, After-slice_known-in-loop-top-1, After-unpack-c, Then-present-top}
 

@@ -1,18 +1,14 @@
 -- What the loops of `cycle::next_candidate` keep.
 -- Assumes nothing.
-use mathlib.Core.Path.{◌≡◌, refl, ◌∙◌}
-use Prim.Native.Nat.{◌+◌, ◌*◌, ◌≤◌, ◌<◌}
-use native.Mathlib.Omega.{arith}
-use lib.ListN.{length, get_or}
-use Rattle.le.proofs.Frames.{outside_none, outside_trans}
+use mathlib.Core.Path.{◌≡◌}
+use Prim.Native.Nat.{◌+◌, ◌*◌}
+use lib.ListN.{length}
 use Rattle.queue.specs.Keys.{Queued}
 use Rattle.cycle.specs.Next.{may, degrees_in}
 use Rattle.tables.specs.Tables.{queue_at}
 use Rattle.le.specs.Le.{words, Outside}
-use Rattle.le.proofs.Places.{length_words}
 use Rattle.queue.specs.Places.{keys_in}
-use Rattle.cycle.proofs.Turning.{sum, Turning, top_read, top_node, degree_small, key_read, heap_here, turn_queued, turn_less, turned}
-use borrow.Author.Rules.{rules}
+use Rattle.cycle.proofs.Turning.{sum}
 use Rattle.cycle.proofs.next_candidate.Given as goal
 
 abbrev pub invariant-loop-top : goal.invariant-loop-top

@@ -4,7 +4,6 @@ use mathlib.Core.Bool.{Bool, cond}
 use mathlib.Core.Path.{◌≡◌, sym, ap, ◌∙◌}
 use native.Mathlib.Omega.{arith}
 use lib.ListN.{length}
-use borrow.Author.Rules.{rules}
 use Rattle.choice.specs.Calls.{room_no_loop, loop_free, no_loop_call}
 use Rattle.choice.specs.Drawing.{no_loop}
 use Rattle.form.specs.Form.{outcome}

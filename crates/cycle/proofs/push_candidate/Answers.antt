@@ -10,7 +10,6 @@ use Rattle.le.specs.Le.{words}
 use borrow.Author.Tests.{not-true, not-false}
 use Rattle.queue.specs.Places.{Added}
 use Rattle.cycle.specs.Next.{may}
-use borrow.Author.Rules.{rules}
 use Rattle.cycle.proofs.push_candidate.Goals as goal
 
 pub may_be_chosen-requires : goal.may_be_chosen-requires

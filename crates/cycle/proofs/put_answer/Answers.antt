@@ -1,6 +1,6 @@
 -- `cycle::put_answer` meets its contract.
 -- Assumes nothing.
-use mathlib.Core.Path.{◌≡◌, ap, ◌∙◌}
+use mathlib.Core.Path.{◌≡◌, ap}
 use Prim.Native.Nat.{ℕ, ◌+◌, ◌-◌, ◌*◌, ◌≤◌}
 use native.Mathlib.Nat.{mul-le-mul_right}
 use native.Mathlib.Omega.{arith}
@@ -9,7 +9,6 @@ use Rattle.le.specs.Le.{words}
 use Rattle.le.proofs.Rows.{wide_some}
 use Rattle.cycle.specs.Begin.{flagged_below}
 use Rattle.cycle.proofs.Calls.{listing_10, listing_0}
-use borrow.Author.Rules.{rules}
 use Rattle.cycle.proofs.put_answer.Goals as goal
 use Rattle.cycle.proofs.put_answer.Goals.{After-put_chosen-arg-1, After-slice_known-2-1, Then-list-ids}
 

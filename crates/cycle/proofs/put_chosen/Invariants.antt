@@ -1,15 +1,11 @@
 -- What the loops of `cycle::put_chosen` keep.
 -- Assumes nothing.
-use mathlib.Core.Path.{◌≡◌, refl, sym, ap, ◌∙◌}
+use mathlib.Core.Path.{◌≡◌}
 use Prim.Native.Nat.{◌≤◌, ◌-◌}
-use native.Mathlib.Nat.{le_antisymm}
-use native.Mathlib.Omega.{arith}
-use lib.ListN.{length-append, length}
-use Rattle.cycle.specs.Begin.{shown, flagged_below}
+use lib.ListN.{length}
+use Rattle.cycle.specs.Begin.{flagged_below}
 use Rattle.le.specs.Le.{words}
 use Rattle.le.specs.Rows.{puts}
-use Rattle.le.proofs.Rows.{holds_less, holds_same, puts_none}
-use Rattle.cycle.proofs.Flags.{flagged_next, flagged_fits, flagged_turn}
 use Rattle.cycle.proofs.put_chosen.Given as goal
 
 abbrev pub invariant-loop-v : goal.invariant-loop-v

@@ -1,10 +1,9 @@
 -- `cycle::put_flagged` meets its contract.
 -- Assumes nothing.
 use mathlib.Core.Path.{◌≡◌, sym, ap, ◌∙◌}
-use mathlib.Core.List.{[], ◌∷◌}
+use mathlib.Core.List.{◌∷◌}
 use native.Mathlib.Omega.{arith}
 use lib.ListN.{length}
-use borrow.Author.Rules.{rules}
 use Rattle.cycle.specs.Begin.{shown}
 use Rattle.le.specs.Le.{words}
 use Rattle.le.proofs.Rows.{holds_less, holds_index, puts_none}

@@ -9,7 +9,6 @@ use Rattle.le.specs.Le.{words}
 use Rattle.le.proofs.Places.{length_words}
 use Rattle.cycle.proofs.May.{may_low}
 use Rattle.cycle.proofs.Staging.{flag_roomy, flag_lists, pick_later, pick_roomy, pick_lists, staged}
-use borrow.Author.Rules.{rules}
 use Rattle.cycle.proofs.stage.Goals as goal
 use Rattle.cycle.proofs.stage.Goals.{After-peel-arg-1, After-remove_vertex-arg-1, After-slice_known-4-1}
 

@@ -1,10 +1,8 @@
 -- `cycle::unpack` meets its contract.
 -- Assumes nothing.
 use mathlib.Core.Path.{refl}
-use Prim.Native.Nat.{◌-◌}
 use native.Mathlib.Omega.{arith}
 use Rattle.queue.specs.Keys.{id_of, in_of, score_of}
-use borrow.Author.Rules.{rules}
 use Rattle.cycle.proofs.unpack.Goals as goal
 
 pub returns-then-indegree-eq0 : goal.returns-then-indegree-eq0

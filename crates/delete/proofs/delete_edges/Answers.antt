@@ -21,7 +21,6 @@ use Rattle.form.proofs.Listed.{Given, ids_given_lem, ids_refused, ids_below}
 use Rattle.form.proofs.Stored.{unread, stored_rows, stored_bytes}
 use Rattle.write.proofs.Calls.{gives_by, graph_unread, graph_stopped, Ends, graph_ends}
 use Rattle.delete.proofs.Calls.{edges_roomy, edges_stop, edges_next, unmarked_deleted}
-use borrow.Author.Rules.{rules}
 use native.Mathlib.Omega.{arith}
 use Rattle.delete.proofs.delete_edges.Goals as goal
 use Rattle.delete.proofs.delete_edges.Goals.{After-mark-arg-1, After-put_without_edges-arg-1, After-refusal, After-refusal-in_default-graph, After-refusal-in_default-list, After-refusal-in_default-size, After-slice_known-3-1, After-slice_known-4-1, After-without_edges-y, In-Sized}

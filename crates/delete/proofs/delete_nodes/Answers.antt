@@ -27,7 +27,6 @@ use Rattle.write.proofs.Results.{Fits, result_refused, result_fits, fits_room, d
 use Rattle.delete.proofs.Calls.{nodes_roomy, nodes_deleted_lem, nodes_unread, nodes_unlisted, nodes_refused, nodes_no_map, nodes_done, map_put}
 use Rattle.gone.proofs.Marks.{outside}
 use Rattle.moved.proofs.Places.{map_made}
-use borrow.Author.Rules.{rules}
 use native.Mathlib.Omega.{arith}
 use Rattle.delete.proofs.delete_nodes.Goals as goal
 use Rattle.delete.proofs.delete_nodes.Goals.{After-mark-arg-1, After-put_map-arg-1, After-put_without_nodes-arg-1, After-refusal, After-refusal-in_default-fit, After-refusal-in_default-graph, After-refusal-in_default-list, After-refusal-in_default-size, After-slice_known-4-1, After-slice_known-6-1, After-struct_known-1, After-without_nodes-sizes, In-Sized}

@@ -8,7 +8,6 @@ use Rattle.ledger.proofs.Words.{pairs_before}
 use Rattle.ledger.proofs.Deleted.{edges_deleted}
 use Rattle.deletions.proofs.Turns.{log_mapped}
 use native.Mathlib.Omega.{arith}
-use borrow.Author.Rules.{rules}
 use Rattle.deletions.proofs.delete_edges.Goals as goal
 
 pub make_map-requires : goal.make_map-requires

@@ -10,7 +10,6 @@ use Rattle.ledger.proofs.Words.{pairs_before, pairs_behind, words_before, words_
 use Rattle.ledger.proofs.Deleted.{nodes_deleted_lem}
 use Rattle.deletions.proofs.Turns.{log_mapped, ids_mapped}
 use native.Mathlib.Omega.{arith}
-use borrow.Author.Rules.{rules}
 use Rattle.deletions.proofs.delete_nodes.Goals as goal
 
 pub make_map-requires : goal.make_map-requires

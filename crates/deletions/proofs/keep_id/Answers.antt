@@ -6,7 +6,6 @@ use Rattle.le.specs.Le.{words}
 use Rattle.ledger.specs.Left.{mapped}
 use Rattle.deletions.proofs.Turns.{word_goes, word_stays}
 use native.Mathlib.Omega.{arith}
-use borrow.Author.Rules.{rules}
 use Rattle.deletions.proofs.keep_id.Goals as goal
 
 pub overflow_add-x : goal.overflow_add-x

@@ -3,8 +3,6 @@
 use mathlib.Core.Bool.{false}
 use Rattle.le.specs.Le.{words}
 use Rattle.deletions.proofs.Turns.{word_goes, word_stays}
-use native.Mathlib.Omega.{arith}
-use borrow.Author.Rules.{rules}
 use Rattle.deletions.proofs.keep_label.Goals as goal
 
 pub returns-then-word : goal.returns-then-word

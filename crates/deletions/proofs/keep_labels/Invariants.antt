@@ -1,15 +1,11 @@
 -- What the loops of `deletions::keep_labels` keep.
 -- Assumes nothing.
 use mathlib.Core.Bool.{false}
-use mathlib.Core.Path.{◌≡◌, refl, ◌∙◌, subst}
-use Prim.Native.Nat.{ℕ, ◌-◌, ◌≤◌}
-use native.Mathlib.Nat.{le_antisymm}
+use mathlib.Core.Path.{◌≡◌}
+use Prim.Native.Nat.{◌-◌, ◌≤◌}
 use lib.ListN.{length}
 use Rattle.le.specs.Le.{words}
-use Rattle.le.proofs.Places.{length_words}
 use Rattle.ledger.specs.Left.{WordsLeft}
-use Rattle.ledger.proofs.Sifting.{words_begun, words_turned}
-use native.Mathlib.Omega.{arith}
 use Rattle.deletions.proofs.keep_labels.Given as goal
 
 abbrev pub invariant-loop-k : goal.invariant-loop-k

@@ -9,7 +9,6 @@ use Rattle.graph.specs.Lists.{flat}
 use Rattle.ledger.specs.Left.{first_left, second_left, kept_pair}
 use Rattle.deletions.specs.Sifts.{both_stay}
 use native.Mathlib.Omega.{arith}
-use borrow.Author.Rules.{rules}
 use Rattle.deletions.proofs.keep_pair.Goals as goal
 
 pub first_left-a-requires : goal.first_left-a-requires

@@ -2,9 +2,9 @@
 -- Assumes nothing.
 use mathlib.Core.Logic.{inr}
 use mathlib.Core.Path.{◌≡◌, refl, ◌∙◌, subst}
-use Prim.Native.Nat.{ℕ, ◌+◌, ◌-◌, ◌*◌, ◌≤◌, ◌<◌}
+use Prim.Native.Nat.{ℕ, ◌+◌, ◌*◌, ◌≤◌, ◌<◌}
 use native.Mathlib.Nat.{le_antisymm}
-use lib.ListN.{length, get_or}
+use lib.ListN.{get_or}
 use Rattle.le.specs.Le.{words}
 use Rattle.le.proofs.Numbers.{below_at}
 use Rattle.le.proofs.Places.{length_words}

@@ -1,6 +1,6 @@
 -- `deletions::make_map` meets its contract.
 -- Assumes nothing.
-use mathlib.Core.List.{List, []}
+use mathlib.Core.List.{List}
 use mathlib.Core.Path.{sym, subst}
 use Prim.Native.Nat.{ℕ, ◌+◌}
 use lib.ListN.{replicate, length-replicate}
@@ -12,7 +12,6 @@ use Rattle.ledger.specs.Tables.{map_at}
 use Rattle.deletions.specs.Sifts.{Marked}
 use Rattle.deletions.proofs.Maps.{none_marked, mapped_by}
 use native.Mathlib.Omega.{arith}
-use borrow.Author.Rules.{rules}
 use Rattle.deletions.proofs.make_map.Goals as goal
 
 pub clear_map-requires : goal.clear_map-requires

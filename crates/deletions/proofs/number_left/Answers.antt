@@ -1,9 +1,8 @@
 -- `deletions::number_left` meets its contract.
 -- Assumes nothing.
-use mathlib.Core.Path.{◌≡◌, refl, ◌∙◌, subst}
-use Prim.Native.Nat.{ℕ, ◌-◌, ◌≤◌}
+use mathlib.Core.Path.{refl, ◌∙◌, subst}
+use Prim.Native.Nat.{ℕ}
 use native.Mathlib.Nat.{le_antisymm}
-use lib.ListN.{length}
 use Rattle.le.specs.Le.{words}
 use Rattle.le.proofs.Places.{length_words}
 use Rattle.graph.proofs.Kept.{new_id_le}

@@ -2,8 +2,6 @@
 -- Assumes nothing.
 use Rattle.le.specs.Le.{words}
 use Rattle.deletions.proofs.Turns.{number_stays, number_goes}
-use native.Mathlib.Omega.{arith}
-use borrow.Author.Rules.{rules}
 use Rattle.deletions.proofs.number_one.Goals as goal
 
 pub returns-then-word-eq0 : goal.returns-then-word-eq0

@@ -9,8 +9,6 @@ use lib.Seq.{sets}
 use Rattle.le.specs.Le.{words}
 use Rattle.graph.specs.Lists.{flat}
 use Rattle.deletions.proofs.Turns.{first_goes, second_goes, both_stay_lem, next_none}
-use native.Mathlib.Omega.{arith}
-use borrow.Author.Rules.{rules}
 use Rattle.deletions.proofs.put_kept.Goals as goal
 
 pub returns-then-a-eq-GONE : goal.returns-then-a-eq-GONE

@@ -2,7 +2,6 @@
 -- Assumes nothing.
 use Rattle.le.specs.Le.{words}
 use Rattle.deletions.proofs.Turns.{second_edge, second_other}
-use native.Mathlib.Omega.{arith}
 use Rattle.deletions.proofs.second_left.Goals as goal
 
 pub returns-then-how-eq-EDGE : goal.returns-then-how-eq-EDGE

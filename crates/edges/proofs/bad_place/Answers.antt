@@ -5,7 +5,6 @@ use Prim.Native.Nat.{ℕ, ◌≤◌, ◌-◌, ◌+◌, ◌*◌}
 use native.Mathlib.Nat.{mul-le-mul_right}
 use native.Mathlib.Omega.{arith}
 use lib.ListN.{length, drop}
-use borrow.Author.Rules.{rules}
 use Rattle.graph.specs.Lists.{first_bad}
 use Rattle.graph.proofs.Lists.{first_bad_most}
 use Rattle.le.specs.Le.{numbers}

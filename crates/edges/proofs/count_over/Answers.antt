@@ -1,6 +1,5 @@
 -- `edges::count_over` meets its contract.
 -- Assumes nothing.
-use borrow.Author.Rules.{rules}
 use borrow.Author.Tests.{lt-ltb, le-ltb}
 use Rattle.edges.proofs.count_over.Goals as goal
 

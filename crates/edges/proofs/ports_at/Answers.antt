@@ -3,7 +3,6 @@
 use mathlib.Core.Path.{◌≡◌, ap}
 use Prim.Native.Nat.{ℕ, ◌+◌}
 use native.Mathlib.Omega.{arith}
-use borrow.Author.Rules.{rules}
 use Rattle.le.specs.Le.{number_at}
 use Rattle.le.proofs.Places.{number_halves, number_two}
 use Rattle.le.proofs.Rows.{four}

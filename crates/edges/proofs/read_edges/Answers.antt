@@ -1,15 +1,11 @@
 -- `edges::read_edges` meets its contract.
 -- Assumes nothing.
-use mathlib.Core.Path.{◌≡◌, sym, ap, ◌∙◌}
-use Prim.Native.Nat.{ℕ, ◌≤◌, ◌-◌}
+use mathlib.Core.Path.{sym, ◌∙◌}
 use native.Mathlib.Nat.{le_antisymm}
 use native.Mathlib.Omega.{arith}
-use mathlib.Core.Logic.{◌⊎◌, inl, inr}
-use denote.Enum.Declared.{tag_of}
 use borrow.Author.Rules.{rules}
 use Rattle.form.specs.Form.{meant}
-use Rattle.edges.specs.contracts.Edges.{the_type}
-use Rattle.edges.proofs.Edge.{Sofar, one_more, stopped, ended, begun}
+use Rattle.edges.proofs.Edge.{one_more, stopped, ended, begun}
 use Rattle.edges.proofs.read_edges.Goals as goal
 
 pub loop-i-init : goal.loop-i-init

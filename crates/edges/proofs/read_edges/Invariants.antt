@@ -1,15 +1,8 @@
 -- What the loops of `edges::read_edges` keep.
 -- Assumes nothing.
-use mathlib.Core.Path.{◌≡◌, sym, ap, ◌∙◌}
-use Prim.Native.Nat.{ℕ, ◌≤◌, ◌-◌}
-use native.Mathlib.Nat.{le_antisymm}
-use native.Mathlib.Omega.{arith}
-use mathlib.Core.Logic.{◌⊎◌, inl, inr}
-use denote.Enum.Declared.{tag_of}
-use borrow.Author.Rules.{rules}
+use Prim.Native.Nat.{◌≤◌, ◌-◌}
 use Rattle.form.specs.Form.{meant}
-use Rattle.edges.specs.contracts.Edges.{the_type}
-use Rattle.edges.proofs.Edge.{Sofar, one_more, stopped, ended, begun}
+use Rattle.edges.proofs.Edge.{Sofar}
 use Rattle.edges.proofs.read_edges.Given as goal
 
 abbrev pub invariant-loop-i : goal.invariant-loop-i

@@ -1,19 +1,12 @@
 -- What the loops of `gone::ids_left` keep.
 -- Assumes nothing.
-use mathlib.Core.Bool.{cond}
-use mathlib.Core.Path.{◌≡◌, refl, sym, ap, ◌∙◌}
+use mathlib.Core.Path.{◌≡◌}
 use Prim.Native.Nat.{ℕ, ◌-◌, ◌≤◌}
-use native.Mathlib.Nat.{le_antisymm}
 use lib.ListN.{length}
 use Rattle.gone.specs.Marks.{marked}
 use Rattle.graph.specs.Delete.{renamed}
 use Rattle.le.specs.Le.{Below}
 use Rattle.le.specs.Rows.{span}
-use Rattle.le.proofs.Rows.{holds_less, holds_index}
-use Rattle.write.proofs.Grows.{entry_below, count_more}
-use Rattle.gone.proofs.Grows.{one_stays, ids_grow}
-use borrow.Author.Rules.{rules}
-use native.Mathlib.Omega.{arith}
 use Rattle.gone.proofs.ids_left.Given as goal
 
 abbrev pub invariant-loop-i : goal.invariant-loop-i

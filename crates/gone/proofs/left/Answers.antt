@@ -1,12 +1,11 @@
 -- `gone::left` meets its contract.
 -- Assumes nothing.
-use mathlib.Core.Path.{◌≡◌, refl, ap, ◌∙◌}
-use Prim.Native.Nat.{◌-◌, ◌≤◌, ◌<◌}
+use mathlib.Core.Path.{refl, ap, ◌∙◌}
+use Prim.Native.Nat.{◌<◌}
 use native.Mathlib.Nat.{le_antisymm}
 use Rattle.gone.specs.Marks.{marked}
 use Rattle.graph.specs.Delete.{new_id}
 use Rattle.gone.proofs.Grows.{new_id_more}
-use borrow.Author.Rules.{rules}
 use native.Mathlib.Omega.{arith}
 use Rattle.gone.proofs.left.Goals as goal
 

@@ -1,17 +1,16 @@
 -- `gone::mark` meets its contract.
 -- Assumes nothing.
-use mathlib.Core.List.{List, [], ◌∷◌, ◌++◌}
+use mathlib.Core.List.{List, ◌∷◌, ◌++◌}
 use mathlib.Core.Path.{◌≡◌, refl, sym, ap, ◌∙◌}
-use Prim.Native.Nat.{ℕ, ◌+◌, ◌-◌, ◌≤◌, ◌<◌}
+use Prim.Native.Nat.{ℕ, ◌+◌, ◌<◌}
 use native.Mathlib.Nat.{le_antisymm, zero-add}
-use lib.ListN.{length, length-set}
+use lib.ListN.{length-set}
 use Rattle.gone.specs.Marks.{marked}
 use Rattle.graph.specs.Lists.{among}
 use Rattle.le.specs.Rows.{entry, span}
 use Rattle.le.proofs.Rows.{holds_less, span_next}
 use Rattle.write.proofs.Grows.{entry_below}
 use Rattle.gone.proofs.Marks.{cleared, marked_more}
-use borrow.Author.Rules.{rules}
 use native.Mathlib.Omega.{arith}
 use Rattle.gone.proofs.mark.Goals as goal
 use Rattle.gone.proofs.mark.Goals.{After-number-id}

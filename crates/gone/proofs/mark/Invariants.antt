@@ -1,18 +1,11 @@
 -- What the loops of `gone::mark` keep.
 -- Assumes nothing.
-use mathlib.Core.List.{List, [], ◌∷◌, ◌++◌}
-use mathlib.Core.Path.{◌≡◌, refl, sym, ap, ◌∙◌}
-use Prim.Native.Nat.{ℕ, ◌+◌, ◌-◌, ◌≤◌, ◌<◌}
-use native.Mathlib.Nat.{le_antisymm, zero-add}
-use lib.ListN.{length, length-set}
+use mathlib.Core.Path.{◌≡◌}
+use Prim.Native.Nat.{◌-◌, ◌≤◌}
+use lib.ListN.{length}
 use Rattle.gone.specs.Marks.{marked}
 use Rattle.graph.specs.Lists.{among}
-use Rattle.le.specs.Rows.{entry, span}
-use Rattle.le.proofs.Rows.{holds_less, span_next}
-use Rattle.write.proofs.Grows.{entry_below}
-use Rattle.gone.proofs.Marks.{cleared, marked_more}
-use borrow.Author.Rules.{rules}
-use native.Mathlib.Omega.{arith}
+use Rattle.le.specs.Rows.{span}
 use Rattle.gone.proofs.mark.Given as goal
 
 abbrev pub invariant-loop-k : goal.invariant-loop-k

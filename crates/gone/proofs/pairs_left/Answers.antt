@@ -1,18 +1,16 @@
 -- `gone::pairs_left` meets its contract.
 -- Assumes nothing.
-use mathlib.Core.Path.{◌≡◌, refl, ap, ◌∙◌}
-use Prim.Native.Nat.{ℕ, ◌*◌, ◌-◌, ◌≤◌}
+use mathlib.Core.Path.{refl, ap, ◌∙◌}
+use Prim.Native.Nat.{ℕ, ◌*◌}
 use native.Mathlib.Nat.{le_antisymm}
 use lib.ListN.{length}
 use Rattle.gone.specs.Marks.{marked}
 use Rattle.graph.specs.Delete.{renamed_pairs}
 use Rattle.graph.specs.Lists.{paired}
-use Rattle.le.specs.Le.{Below}
 use Rattle.le.specs.Rows.{span}
 use Rattle.le.proofs.Rows.{holds_less, holds_index}
 use Rattle.write.proofs.Grows.{part_below, count_more}
 use Rattle.gone.proofs.Grows.{pairs_grow}
-use borrow.Author.Rules.{rules}
 use native.Mathlib.Omega.{arith}
 use Rattle.gone.proofs.pairs_left.Goals as goal
 

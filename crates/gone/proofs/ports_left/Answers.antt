@@ -1,21 +1,19 @@
 -- `gone::ports_left` meets its contract.
 -- Assumes nothing.
 use mathlib.Core.List.{List, ◌++◌, map}
-use Prim.Native.Nat.{ℕ, ◌-◌, ◌≤◌}
-use mathlib.Core.Path.{◌≡◌, refl, sym, ap, ◌∙◌}
-use lib.ListN.{length, take}
+use Prim.Native.Nat.{ℕ}
+use mathlib.Core.Path.{refl, sym, ap, ◌∙◌}
+use lib.ListN.{length}
 use Rattle.gone.specs.Marks.{marked}
 use Rattle.form.specs.Stored.{graph_of}
 use Rattle.form.specs.declared.Sizes.{Sizes}
 use Rattle.graph.specs.Delete.{renamed, renamed_edge}
-use Rattle.graph.specs.Form.{edge_start}
 use Rattle.graph.specs.Graph.{Edge, edge_entries}
 use Rattle.form.proofs.Stored.{stored_rows}
 use Rattle.le.proofs.Rows.{holds_index}
 use Rattle.write.proofs.Edges.{edge_no, Met, met, edge_held, ids_below, all_edges, edge_less}
 use Rattle.write.proofs.Grows.{count_more}
 use Rattle.gone.proofs.Grows.{renamed_append, moved_grow}
-use borrow.Author.Rules.{rules}
 use native.Mathlib.Omega.{arith}
 use Rattle.gone.proofs.ports_left.Goals as goal
 use Rattle.gone.proofs.ports_left.Goals.{After-ids_left-ports, After-struct_known-1}

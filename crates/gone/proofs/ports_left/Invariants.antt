@@ -1,22 +1,14 @@
 -- What the loops of `gone::ports_left` keep.
 -- Assumes nothing.
-use mathlib.Core.List.{List, ◌++◌, map}
-use Prim.Native.Nat.{ℕ, ◌-◌, ◌≤◌}
-use mathlib.Core.Path.{◌≡◌, refl, sym, ap, ◌∙◌}
+use mathlib.Core.List.{map}
+use Prim.Native.Nat.{◌-◌, ◌≤◌}
+use mathlib.Core.Path.{◌≡◌}
 use lib.ListN.{length, take}
 use Rattle.gone.specs.Marks.{marked}
 use Rattle.form.specs.Stored.{graph_of}
-use Rattle.form.specs.declared.Sizes.{Sizes}
-use Rattle.graph.specs.Delete.{renamed, renamed_edge}
+use Rattle.graph.specs.Delete.{renamed_edge}
 use Rattle.graph.specs.Form.{edge_start}
-use Rattle.graph.specs.Graph.{Edge, edge_entries}
-use Rattle.form.proofs.Stored.{stored_rows}
-use Rattle.le.proofs.Rows.{holds_index}
-use Rattle.write.proofs.Edges.{edge_no, Met, met, edge_held, ids_below, all_edges, edge_less}
-use Rattle.write.proofs.Grows.{count_more}
-use Rattle.gone.proofs.Grows.{renamed_append, moved_grow}
-use borrow.Author.Rules.{rules}
-use native.Mathlib.Omega.{arith}
+use Rattle.graph.specs.Graph.{edge_entries}
 use Rattle.gone.proofs.ports_left.Given as goal
 
 abbrev pub invariant-loop-i : goal.invariant-loop-i

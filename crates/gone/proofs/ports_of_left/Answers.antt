@@ -1,12 +1,10 @@
 -- `gone::ports_of_left` meets its contract.
 -- Assumes nothing.
 use mathlib.Core.List.{List, ◌++◌}
-use mathlib.Core.Path.{◌≡◌, refl, ap, ◌∙◌}
-use Prim.Native.Nat.{◌-◌, ◌≤◌}
-use lib.ListN.{length, take}
+use mathlib.Core.Path.{refl, ap, ◌∙◌}
+use lib.ListN.{length}
 use Rattle.gone.specs.Marks.{marked}
 use Rattle.form.specs.Stored.{graph_of}
-use Rattle.graph.specs.Form.{edge_start}
 use Rattle.graph.specs.Graph.{Edge, edge_entries}
 use Rattle.form.proofs.Stored.{stored_rows}
 use Rattle.graph.specs.Delete.{remaining}
@@ -14,7 +12,6 @@ use Rattle.le.proofs.Rows.{holds_index}
 use Rattle.write.proofs.Edges.{Met, met, edge_held, all_edges, edge_less}
 use Rattle.write.proofs.Grows.{count_more}
 use Rattle.gone.proofs.Grows.{unless_long, edges_grow}
-use borrow.Author.Rules.{rules}
 use native.Mathlib.Omega.{arith}
 use Rattle.gone.proofs.ports_of_left.Goals as goal
 use Rattle.gone.proofs.ports_of_left.Goals.{After-if_stays-ports, After-struct_known-1}

@@ -6,7 +6,6 @@ use Rattle.form.specs.Stored.{graph_of}
 use Rattle.form.specs.declared.Sizes.{Sizes}
 use Rattle.write.specs.Write.{counted_as, fitted}
 use Rattle.write.proofs.Grows.{left_count}
-use borrow.Author.Rules.{rules}
 use Rattle.gone.proofs.without_edges.Goals as goal
 
 pub left-requires : goal.left-requires

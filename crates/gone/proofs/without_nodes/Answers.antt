@@ -15,7 +15,6 @@ use Rattle.le.proofs.Rows.{holds_less, at_row, at_span}
 use Rattle.write.proofs.Grows.{left_count}
 use Rattle.write.proofs.Parts.{span_known}
 use Rattle.gone.proofs.Parts.{pairs_moved}
-use borrow.Author.Rules.{rules}
 use native.Mathlib.Omega.{arith}
 use Rattle.gone.proofs.without_nodes.Goals as goal
 

@@ -1,15 +1,11 @@
 -- What the loops of `grouping::clear_first` keep.
 -- Assumes nothing.
-use mathlib.Core.List.{List}
-use mathlib.Core.Path.{◌≡◌, refl, ap, ◌∙◌}
-use Prim.Native.Nat.{ℕ, ◌+◌, ◌-◌, ◌≤◌}
-use native.Mathlib.Nat.{le_antisymm}
-use lib.ListN.{length, set, replicate}
+use mathlib.Core.Path.{◌≡◌}
+use Prim.Native.Nat.{◌-◌, ◌≤◌}
+use lib.ListN.{length, replicate}
 use lib.Seq.{sets}
 use Rattle.le.specs.Le.{words}
-use Rattle.le.proofs.Tables.{fill_table}
 use Rattle.ledger.specs.Tables.{first_at}
-use native.Mathlib.Omega.{arith}
 use Rattle.grouping.proofs.clear_first.Given as goal
 
 abbrev pub invariant-loop-k : goal.invariant-loop-k

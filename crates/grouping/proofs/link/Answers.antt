@@ -2,12 +2,12 @@
 -- Assumes nothing.
 use mathlib.Core.List.{List}
 use mathlib.Core.Path.{◌≡◌, refl, sym, ◌∙◌, subst}
-use Prim.Native.Nat.{ℕ, ◌+◌, ◌-◌, ◌*◌, ◌≤◌}
-use lib.ListN.{length, replicate, length-replicate}
+use Prim.Native.Nat.{ℕ, ◌+◌, ◌-◌, ◌*◌}
+use lib.ListN.{replicate, length-replicate}
 use Rattle.le.specs.Le.{Outside, words}
 use Rattle.le.proofs.Frames.{outside_none, outside_sets, outside_trans}
 use Rattle.ledger.specs.Tables.{next_at, first_at, labels_at}
-use Rattle.ledger.specs.Ledger.{Sound, LinkedFrom}
+use Rattle.ledger.specs.Ledger.{LinkedFrom}
 use Rattle.ledger.proofs.Linking.{linked_frame, linked_turn}
 use Rattle.grouping.proofs.Walks.{same_drawing, same_sound, half_low, linked_start}
 use native.Mathlib.Omega.{arith}

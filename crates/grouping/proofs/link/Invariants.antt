@@ -1,16 +1,11 @@
 -- What the loops of `grouping::link` keep.
 -- Assumes nothing.
-use mathlib.Core.List.{List}
-use mathlib.Core.Path.{◌≡◌, refl, sym, ◌∙◌, subst}
-use Prim.Native.Nat.{ℕ, ◌+◌, ◌-◌, ◌*◌, ◌≤◌}
-use lib.ListN.{length, replicate, length-replicate}
+use mathlib.Core.Path.{◌≡◌}
+use Prim.Native.Nat.{◌≤◌}
+use lib.ListN.{length}
 use Rattle.le.specs.Le.{Outside, words}
-use Rattle.le.proofs.Frames.{outside_none, outside_sets, outside_trans}
-use Rattle.ledger.specs.Tables.{next_at, first_at, labels_at}
+use Rattle.ledger.specs.Tables.{next_at, labels_at}
 use Rattle.ledger.specs.Ledger.{Sound, LinkedFrom}
-use Rattle.ledger.proofs.Linking.{linked_frame, linked_turn}
-use Rattle.grouping.proofs.Walks.{same_drawing, same_sound, half_low, linked_start}
-use native.Mathlib.Omega.{arith}
 use Rattle.grouping.proofs.link.Given as goal
 
 abbrev pub invariant-loop-k : goal.invariant-loop-k

@@ -7,7 +7,6 @@ use Rattle.le.specs.Le.{words}
 use Rattle.ledger.specs.Tables.{next_at, first_at}
 use Rattle.grouping.proofs.Walks.{half_low}
 use native.Mathlib.Omega.{arith}
-use borrow.Author.Rules.{rules}
 use Rattle.grouping.proofs.link_one.Goals as goal
 use Rattle.grouping.proofs.link_one.Goals.{After-set_word-arg-2-1, After-word-half}
 

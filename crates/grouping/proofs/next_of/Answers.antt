@@ -1,6 +1,5 @@
 -- `grouping::next_of` meets its contract.
 -- Assumes nothing.
-use native.Mathlib.Omega.{arith}
 use Rattle.grouping.proofs.next_of.Goals as goal
 
 pub returns : goal.returns

@@ -1,6 +1,5 @@
 -- `grouping::put_drawing` meets its contract.
 -- Assumes nothing.
-use mathlib.Core.List.{[]}
 use mathlib.Core.Path.{◌≡◌, refl, ◌∙◌}
 use Prim.Native.Nat.{ℕ}
 use lib.ListN.{length}
@@ -16,7 +15,6 @@ use Rattle.ledger.specs.Ledger.{drawing}
 use Rattle.grouping.specs.Grouped.{lists_in}
 use Rattle.grouping.proofs.Walks.{edges_long}
 use native.Mathlib.Omega.{arith}
-use borrow.Author.Rules.{rules}
 use Rattle.grouping.proofs.put_drawing.Goals as goal
 
 pub put_labels-requires : goal.put_labels-requires

@@ -1,6 +1,6 @@
 -- `grouping::put_edge` meets its contract.
 -- Assumes nothing.
-use mathlib.Core.List.{[], ◌∷◌, ◌++◌}
+use mathlib.Core.List.{◌∷◌, ◌++◌}
 use mathlib.Core.Path.{◌≡◌, ◌∙◌}
 use Prim.Native.Nat.{ℕ, ◌+◌, ◌-◌, ◌*◌, ◌^◌, ◌<◌}
 use lib.ListN.{length, length-append}
@@ -15,7 +15,6 @@ use Rattle.ledger.specs.Ledger.{nodes_at, log_in}
 use Rattle.ledger.proofs.Words.{length_pairs_in}
 use Rattle.grouping.proofs.Walks.{nodes_few}
 use native.Mathlib.Omega.{arith}
-use borrow.Author.Rules.{rules}
 use Rattle.grouping.proofs.put_edge.Goals as goal
 use Rattle.grouping.proofs.put_edge.Goals.{After-put_half-arg-1, After-put_half-arg-2-1, After-put_two-arg-1}
 

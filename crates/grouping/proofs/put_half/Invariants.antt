@@ -1,18 +1,12 @@
 -- What the loops of `grouping::put_half` keep.
 -- Assumes nothing.
-use mathlib.Core.List.{List, [], ◌∷◌, ◌++◌}
-use mathlib.Core.Path.{refl, subst}
-use Prim.Native.Nat.{ℕ, ◌+◌, ◌-◌, ◌*◌}
-use lib.ListN.{length, get_or}
+use mathlib.Core.List.{List}
+use Prim.Native.Nat.{ℕ, ◌+◌, ◌-◌}
+use lib.ListN.{length}
 use Rattle.le.specs.Le.{words}
-use Rattle.le.proofs.Rows.{holds_less, holds_same, holds_index}
 use Rattle.write.specs.Write.{Put}
-use Rattle.write.proofs.Grows.{put_length}
-use Rattle.write.proofs.Results.{put_none, put_then}
-use Rattle.ledger.specs.Tables.{log_at, next_at}
 use Rattle.ledger.specs.Ledger.{nodes_at, log_in}
-use Rattle.grouping.proofs.Walks.{Walk, Walked, walk_begins, walk_turns, walk_done}
-use native.Mathlib.Omega.{arith}
+use Rattle.grouping.proofs.Walks.{Walk}
 use Rattle.grouping.proofs.put_half.Given as goal
 
 abbrev pub invariant-loop-port : goal.invariant-loop-port

@@ -1,9 +1,9 @@
 -- `grouping::put_labels` meets its contract.
 -- Assumes nothing.
 use mathlib.Core.Logic.{inr}
-use mathlib.Core.List.{List, [], ◌++◌}
+use mathlib.Core.List.{List, ◌++◌}
 use mathlib.Core.Path.{refl, sym, ap, ◌∙◌}
-use Prim.Native.Nat.{ℕ, ◌+◌}
+use Prim.Native.Nat.{ℕ}
 use Rattle.le.specs.Le.{words}
 use Rattle.le.specs.Rows.{puts}
 use Rattle.le.proofs.Rows.{at_row, at_span, holds_less, holds_same}
@@ -15,7 +15,6 @@ use Rattle.ledger.proofs.Logs.{edge_labels_lem}
 use Rattle.ledger.proofs.Rooms.{words_span}
 use Rattle.ledger.proofs.Words.{length_words_in}
 use native.Mathlib.Omega.{arith}
-use borrow.Author.Rules.{rules}
 use Rattle.grouping.proofs.put_labels.Goals as goal
 
 pub label_row-labels-requires : goal.label_row-labels-requires

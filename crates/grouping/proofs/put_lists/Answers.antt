@@ -14,7 +14,6 @@ use Rattle.ledger.specs.Ledger.{words_in, drawing}
 use Rattle.ledger.proofs.Rooms.{words_span}
 use Rattle.ledger.proofs.Words.{length_words_in, flat_pairs}
 use native.Mathlib.Omega.{arith}
-use borrow.Author.Rules.{rules}
 use Rattle.grouping.proofs.put_lists.Goals as goal
 
 pub body_row-body-requires : goal.body_row-body-requires

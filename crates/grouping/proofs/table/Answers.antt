@@ -1,7 +1,6 @@
 -- `grouping::table` meets its contract.
 -- Assumes nothing.
 use mathlib.Core.Path.{refl}
-use native.Mathlib.Omega.{arith}
 use Rattle.grouping.proofs.table.Goals as goal
 
 pub returns : goal.returns

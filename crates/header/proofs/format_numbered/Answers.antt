@@ -1,7 +1,6 @@
 -- `header::format_numbered` meets its contract.
 -- Assumes nothing.
 use mathlib.Core.Path.{sym, ap, ◌∙◌}
-use borrow.Author.Rules.{rules}
 use Rattle.graph.specs.Versions.{format_numbered}
 use Rattle.graph.proofs.Verdicts.{format_3}
 use Rattle.graph.proofs.Versions.{version1, version2}

@@ -1,12 +1,11 @@
 -- `hypergraph::discrete` meets its contract.
 -- Assumes nothing.
-use mathlib.Core.List.{List, []}
+use mathlib.Core.List.{List}
 use mathlib.Core.Logic.{inr}
 use mathlib.Core.Path.{refl, sym, ap, ◌∙◌}
 use Prim.Native.Nat.{ℕ}
 use native.Mathlib.Omega.{arith}
 use lib.ListN.{length}
-use borrow.Author.Rules.{rules}
 use Rattle.graph.specs.Build.{discrete}
 use Rattle.graph.specs.Calls.{discrete_call, discrete_step, label_list}
 use Rattle.graph.proofs.Steps.{stops, goes}

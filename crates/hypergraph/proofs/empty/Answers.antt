@@ -2,7 +2,6 @@
 -- Assumes nothing.
 use mathlib.Core.Path.{refl, sym, ◌∙◌}
 use lib.ListN.{length}
-use borrow.Author.Rules.{rules}
 use Rattle.graph.specs.Build.{empty}
 use Rattle.graph.specs.Calls.{empty_call, empty_step}
 use Rattle.write.proofs.Results.{drawn_start}

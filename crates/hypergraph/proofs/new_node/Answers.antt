@@ -3,7 +3,6 @@
 use mathlib.Core.Path.{ap, ◌∙◌}
 use native.Mathlib.Omega.{arith}
 use lib.ListN.{length}
-use borrow.Author.Rules.{rules}
 use Rattle.graph.specs.Build.{new_node}
 use Rattle.graph.specs.Calls.{new_node_call, new_node_step}
 use Rattle.form.specs.Stored.{Stored, graph_of}

@@ -3,7 +3,6 @@
 use mathlib.Core.Path.{◌≡◌, ap, ◌∙◌}
 use native.Mathlib.Omega.{arith}
 use lib.ListN.{length}
-use borrow.Author.Rules.{rules}
 use Rattle.graph.specs.Answer.{answered}
 use Rattle.graph.specs.Build.{unify}
 use Rattle.graph.specs.Calls.{unify_call, unify_step, known}

@@ -1,12 +1,11 @@
 -- `incidence::append` meets its contract.
 -- Assumes nothing.
 use mathlib.Core.Path.{◌∙◌}
-use Prim.Native.Nat.{◌+◌, ◌-◌, ◌*◌}
+use Prim.Native.Nat.{◌+◌, ◌*◌}
 use lib.ListN.{set}
 use Rattle.le.specs.Le.{words}
 use Rattle.tables.specs.Tables.{lists_at, entries_at}
 use Rattle.incidence.specs.Incidence.{appended}
-use borrow.Author.Rules.{rules}
 use Rattle.incidence.proofs.append.Goals as goal
 
 pub returns : goal.returns

@@ -11,7 +11,6 @@ use Rattle.choice.specs.Arcs.{In}
 use Rattle.removal.specs.Room.{source, form_list}
 use Rattle.incidence.specs.Incidence.{appended_all}
 use Rattle.incidence.proofs.Parts.{Fits, no_appended, in_first, in_rest, appended_parts, fits_first, fits_rest}
-use borrow.Author.Rules.{rules}
 use Rattle.incidence.proofs.append_ids.Goals as goal
 
 pub returns-then-count-eq0 : goal.returns-then-count-eq0

@@ -1,19 +1,11 @@
 -- What the loops of `incidence::append_some` keep.
 -- Assumes nothing.
-use mathlib.Core.List.{List, [], ◌∷◌, ◌++◌}
-use mathlib.Core.Path.{◌≡◌, refl, sym, ap, ◌∙◌}
-use Prim.Native.Nat.{ℕ, suc, ◌+◌, ◌-◌, ◌*◌, ◌≤◌, ◌<◌}
-use native.Mathlib.Omega.{arith}
-use lib.ListN.{length, get_or, take}
+use mathlib.Core.Path.{◌≡◌}
+use Prim.Native.Nat.{◌+◌, ◌-◌, ◌≤◌}
+use lib.ListN.{length, take}
 use Rattle.le.specs.Le.{words}
-use lib.Seq.{take-suc, take_all}
-use Rattle.le.specs.Rows.{entry}
-use Rattle.le.proofs.Rows.{holds_index, holds_less}
-use Rattle.tables.specs.Tables.{lists_at}
-use Rattle.removal.specs.Room.{source, start_of, count_of, form_list}
-use Rattle.removal.proofs.Walks.{in_get_d, formed_length, formed_at}
-use Rattle.incidence.specs.Incidence.{appended, appended_all}
-use Rattle.incidence.proofs.Filling.{appended_snoc}
+use Rattle.removal.specs.Room.{source, form_list}
+use Rattle.incidence.specs.Incidence.{appended_all}
 use Rattle.incidence.proofs.append_some.Given as goal
 
 abbrev pub invariant-loop-j : goal.invariant-loop-j

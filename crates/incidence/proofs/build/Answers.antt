@@ -1,6 +1,5 @@
 -- `incidence::build` meets its contract.
 -- Assumes nothing.
-use mathlib.Core.Path.{◌∙◌}
 use native.Mathlib.Omega.{arith}
 use Rattle.le.specs.Le.{words}
 use Rattle.choice.proofs.Fits.{proper_bounded}

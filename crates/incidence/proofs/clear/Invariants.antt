@@ -1,13 +1,10 @@
 -- What the loops of `incidence::clear` keep.
 -- Assumes nothing.
-use mathlib.Core.List.{List}
-use mathlib.Core.Path.{◌≡◌, refl, ap, ◌∙◌}
-use Prim.Native.Nat.{ℕ, ◌+◌, ◌-◌, ◌≤◌}
-use native.Mathlib.Omega.{arith}
-use lib.ListN.{length, set, replicate}
+use mathlib.Core.Path.{◌≡◌}
+use Prim.Native.Nat.{◌-◌, ◌≤◌}
+use lib.ListN.{length, replicate}
 use Rattle.le.specs.Le.{words}
 use lib.Seq.{sets}
-use Rattle.le.proofs.Tables.{fill_table}
 use Rattle.incidence.proofs.clear.Given as goal
 
 abbrev pub invariant-loop-k : goal.invariant-loop-k

@@ -2,12 +2,11 @@
 -- Assumes nothing.
 use mathlib.Core.List.{List}
 use mathlib.Core.Path.{◌≡◌, refl, sym, ap, ◌∙◌, subst}
-use Prim.Native.Nat.{ℕ, ◌-◌, ◌*◌, ◌≤◌, ◌<◌}
+use Prim.Native.Nat.{ℕ, ◌*◌, ◌<◌}
 use native.Mathlib.Omega.{arith}
-use lib.ListN.{length, get_or, replicate}
+use lib.ListN.{get_or, replicate}
 use Rattle.le.specs.Le.{words}
 use Rattle.le.proofs.Places.{length_words}
-use Rattle.graph.specs.Form.{edge_start}
 use Rattle.form.specs.Form.{body_of}
 use Rattle.form.specs.Stored.{graph_of}
 use Rattle.removal.specs.Room.{source}

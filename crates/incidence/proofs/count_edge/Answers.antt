@@ -2,7 +2,7 @@
 -- Assumes nothing.
 use mathlib.Core.List.{List}
 use mathlib.Core.Path.{◌≡◌, sym, ap, ◌∙◌, subst}
-use Prim.Native.Nat.{ℕ, ◌+◌, ◌-◌, ◌*◌, ◌≤◌, ◌<◌}
+use Prim.Native.Nat.{ℕ, ◌+◌, ◌*◌, ◌≤◌, ◌<◌}
 use native.Mathlib.Omega.{arith}
 use lib.ListN.{length, get_or}
 use Rattle.le.specs.Le.{words}
@@ -21,7 +21,6 @@ use Rattle.halves.specs.Halves.{mate}
 use Rattle.incidence.specs.Incidence.{bump_all, noted, edge_counted, CountedTo}
 use Rattle.incidence.proofs.Counting.{bump_at, node_same, counts_turn}
 use Rattle.incidence.proofs.Facts.{Read, facts, edge_read, few_neighbours, sources_held, targets_held, sources_low, targets_low}
-use borrow.Author.Rules.{rules}
 use Rattle.incidence.proofs.count_edge.Goals as goal
 use Rattle.incidence.proofs.count_edge.Goals.{After-count_ids-arg-1, After-note-arg-2-1, After-slice_known-5-1, After-struct_known-2-1, After-struct_known-3-1}
 

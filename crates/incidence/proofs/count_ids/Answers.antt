@@ -5,7 +5,7 @@ use mathlib.Core.Path.{sym, ap, ◌∙◌, subst}
 use Prim.Native.Nat.{ℕ, ◌+◌, ◌-◌, ◌<◌}
 use native.Mathlib.Nat.{add-zero}
 use native.Mathlib.Omega.{arith}
-use lib.ListN.{length, get_or}
+use lib.ListN.{get_or}
 use Rattle.le.specs.Le.{words}
 use Rattle.le.proofs.Rows.{holds_less}
 use Rattle.le.proofs.Places.{length_words}
@@ -13,7 +13,6 @@ use Rattle.choice.specs.Arcs.{In}
 use Rattle.removal.specs.Room.{source, form_list}
 use Rattle.incidence.specs.Incidence.{bump_all}
 use Rattle.incidence.proofs.Parts.{no_bump, in_first, in_rest, bump_first, bump_parts}
-use borrow.Author.Rules.{rules}
 use Rattle.incidence.proofs.count_ids.Goals as goal
 
 pub returns-then-count-eq0 : goal.returns-then-count-eq0

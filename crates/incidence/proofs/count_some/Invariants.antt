@@ -1,20 +1,11 @@
 -- What the loops of `incidence::count_some` keep.
 -- Assumes nothing.
-use mathlib.Core.List.{List, [], ◌∷◌, ◌++◌}
-use mathlib.Core.Path.{◌≡◌, refl, sym, ap, ◌∙◌}
-use Prim.Native.Nat.{ℕ, suc, ◌+◌, ◌-◌, ◌*◌, ◌≤◌, ◌<◌}
-use native.Mathlib.Omega.{arith}
-use lib.ListN.{length, get_or, set, take}
+use mathlib.Core.Path.{◌≡◌}
+use Prim.Native.Nat.{◌+◌, ◌-◌, ◌≤◌}
+use lib.ListN.{length, take}
 use Rattle.le.specs.Le.{words}
-use lib.Seq.{take-suc, take_all}
-use Rattle.le.specs.Rows.{entry}
-use Rattle.le.proofs.Rows.{holds_index, holds_less}
-use Rattle.le.proofs.Places.{length_words}
-use Rattle.tables.specs.Tables.{lists_at}
 use Rattle.removal.specs.Room.{source, form_list}
-use Rattle.removal.proofs.Walks.{in_get_d, formed_length, formed_at}
 use Rattle.incidence.specs.Incidence.{bump_all}
-use Rattle.incidence.proofs.Counting.{bump_snoc, bump_few}
 use Rattle.incidence.proofs.count_some.Given as goal
 
 abbrev pub invariant-loop-j : goal.invariant-loop-j

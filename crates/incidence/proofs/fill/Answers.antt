@@ -2,14 +2,13 @@
 -- Assumes nothing.
 use mathlib.Core.List.{List}
 use mathlib.Core.Path.{◌≡◌, refl, sym, ap, ◌∙◌, subst}
-use Prim.Native.Nat.{ℕ, ◌+◌, ◌-◌, ◌*◌, ◌≤◌, ◌<◌}
+use Prim.Native.Nat.{ℕ, ◌+◌, ◌*◌, ◌<◌}
 use native.Mathlib.Omega.{arith}
-use lib.ListN.{length, get_or, take}
+use lib.ListN.{get_or, take}
 use Rattle.le.specs.Le.{words}
 use Rattle.le.specs.declared.Row.{Row}
 use Rattle.le.specs.Rows.{Holds}
 use Rattle.le.proofs.Places.{length_words}
-use Rattle.graph.specs.Form.{edge_start}
 use Rattle.form.specs.Form.{edge_in}
 use Rattle.form.specs.Stored.{graph_of}
 use Rattle.form.proofs.Stored.{edge_there}

@@ -1,17 +1,11 @@
 -- What the loops of `incidence::lay_out` keep.
 -- Assumes nothing.
-use mathlib.Core.List.{List}
-use mathlib.Core.Path.{◌≡◌, refl, sym, ap, ◌∙◌, subst}
-use Prim.Native.Nat.{ℕ, ◌+◌, ◌-◌, ◌*◌, ◌≤◌}
-use native.Mathlib.Omega.{arith}
-use lib.ListN.{length, get_or, set}
+use mathlib.Core.Path.{◌≡◌}
+use Prim.Native.Nat.{◌-◌, ◌≤◌}
+use lib.ListN.{length, get_or}
 use Rattle.le.specs.Le.{words}
-use Rattle.le.proofs.Places.{length_words}
 use Rattle.halves.specs.Halves.{mate, sum_to}
-use Rattle.halves.proofs.Sums.{sum_apart}
-use Rattle.tables.specs.Tables.{most_ports, lists_at}
 use Rattle.incidence.specs.Incidence.{LaidOut}
-use Rattle.incidence.proofs.Laying.{laid_start, laid_turn, degree_read, sum_next}
 use Rattle.incidence.proofs.lay_out.Given as goal
 
 abbrev pub invariant-loop-y : goal.invariant-loop-y

@@ -2,11 +2,10 @@
 -- Assumes nothing.
 use mathlib.Core.List.{List}
 use mathlib.Core.Path.{ap, ◌∙◌}
-use Prim.Native.Nat.{ℕ, ◌+◌, ◌-◌, ◌*◌}
+use Prim.Native.Nat.{ℕ, ◌+◌, ◌*◌}
 use lib.ListN.{set}
 use Rattle.tables.specs.Tables.{lists_at}
 use Rattle.incidence.specs.Incidence.{noted}
-use borrow.Author.Rules.{rules}
 use Rattle.incidence.proofs.note.Goals as goal
 
 pub returns : goal.returns

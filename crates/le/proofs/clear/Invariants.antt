@@ -1,13 +1,9 @@
 -- What the loops of `le::clear` keep.
 -- Assumes nothing.
-use mathlib.Core.Path.{◌≡◌, refl}
+use mathlib.Core.Path.{◌≡◌}
 use Prim.Native.Nat.{◌≤◌, ◌-◌}
-use native.Mathlib.Nat.{le_antisymm}
-use borrow.Author.Rules.{rules}
-use native.Mathlib.Omega.{arith}
-use lib.ListN.{length, replicate, length-set}
+use lib.ListN.{length, replicate}
 use lib.Seq.{sets}
-use Rattle.le.proofs.Tables.{fill_front}
 use Rattle.le.proofs.clear.Given as goal
 
 abbrev pub invariant-loop-k : goal.invariant-loop-k

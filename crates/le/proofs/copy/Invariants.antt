@@ -1,13 +1,9 @@
 -- What the loops of `le::copy` keep.
 -- Assumes nothing.
-use mathlib.Core.Path.{◌≡◌, refl}
+use mathlib.Core.Path.{◌≡◌}
 use Prim.Native.Nat.{◌≤◌, ◌-◌}
-use native.Mathlib.Nat.{le_antisymm}
-use borrow.Author.Rules.{rules}
-use native.Mathlib.Omega.{arith}
-use lib.ListN.{length, take, drop, length-set}
+use lib.ListN.{length, take, drop}
 use lib.Seq.{sets}
-use Rattle.le.proofs.Stores.{copy_more}
 use Rattle.le.proofs.copy.Given as goal
 
 abbrev pub invariant-loop-k : goal.invariant-loop-k

@@ -1,14 +1,8 @@
 -- What the loops of `le::copy_each` keep.
 -- Assumes nothing.
-use mathlib.Core.Path.{◌≡◌, sym, ap, ◌∙◌}
-use mathlib.Core.List.{◌∷◌, []}
-use Prim.Native.Nat.{ℕ, ◌+◌, ◌-◌, ◌≤◌}
-use native.Mathlib.Nat.{le_antisymm}
-use borrow.Author.Rules.{rules}
-use native.Mathlib.Omega.{arith}
-use lib.ListN.{length}
-use Rattle.le.specs.Rows.{entry, span, puts}
-use Rattle.le.proofs.Rows.{holds_less, holds_same, holds_index, length_span, span_next, length_puts, puts_none, puts_append}
+use mathlib.Core.Path.{◌≡◌}
+use Prim.Native.Nat.{◌-◌, ◌≤◌}
+use Rattle.le.specs.Rows.{span, puts}
 use Rattle.le.proofs.copy_each.Given as goal
 
 abbrev pub invariant-loop-i : goal.invariant-loop-i

@@ -5,7 +5,6 @@ use Prim.Native.Nat.{ℕ, ◌*◌}
 use native.Mathlib.Omega.{arith}
 use lib.ListN.{take, drop}
 use lib.Seq.{sets}
-use borrow.Author.Rules.{rules}
 use Rattle.le.specs.Rows.{place_in}
 use Rattle.le.proofs.Numbers.{below_each}
 use Rattle.le.proofs.Rows.{puts_run}

@@ -1,7 +1,6 @@
 -- `le::get2` meets its contract.
 -- Assumes nothing.
 use native.Mathlib.Omega.{arith}
-use borrow.Author.Rules.{rules}
 use Rattle.le.proofs.Places.{number_two}
 use Rattle.le.proofs.get2.Goals as goal
 

@@ -1,7 +1,6 @@
 -- `le::get4` meets its contract.
 -- Assumes nothing.
 use native.Mathlib.Omega.{arith}
-use borrow.Author.Rules.{rules}
 use Rattle.le.proofs.Places.{number_four}
 use Rattle.le.proofs.get4.Goals as goal
 

@@ -3,7 +3,6 @@
 use native.Mathlib.Numerals.{add-one, add-two, add-three}
 use native.Mathlib.Omega.{arith}
 use lib.ListN.{length-set}
-use borrow.Author.Rules.{rules}
 use Rattle.le.proofs.put2.Goals as goal
 
 pub bounds-d-at-2 : goal.bounds-d-at-2

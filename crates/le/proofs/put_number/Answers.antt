@@ -5,7 +5,6 @@ use Prim.Native.Nat.{ℕ, ◌+◌, ◌*◌, ◌≤◌}
 use native.Mathlib.Omega.{arith}
 use lib.ListN.{length}
 use lib.Seq.{sets}
-use borrow.Author.Rules.{rules}
 use Rattle.le.specs.Le.{bytes}
 use Rattle.le.proofs.Rows.{four, puts_one}
 use Rattle.le.proofs.put_number.Goals as goal

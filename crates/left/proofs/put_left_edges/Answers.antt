@@ -1,13 +1,12 @@
 -- `left::put_left_edges` meets its contract.
 -- Assumes nothing.
 use mathlib.Core.List.{List}
-use Prim.Native.Nat.{ℕ, ◌+◌, ◌-◌, ◌≤◌}
-use mathlib.Core.Path.{◌≡◌, refl, sym, subst}
-use lib.ListN.{take}
+use Prim.Native.Nat.{ℕ, ◌+◌}
+use mathlib.Core.Path.{refl, sym, subst}
 use Rattle.gone.specs.Marks.{marked}
 use Rattle.form.specs.Stored.{graph_of}
 use Rattle.graph.specs.Delete.{remaining}
-use Rattle.graph.specs.Form.{edge_row, edge_start}
+use Rattle.graph.specs.Form.{edge_row}
 use Rattle.graph.specs.Graph.{Edge}
 use Rattle.graph.specs.Lists.{joined}
 use Rattle.le.specs.Rows.{Holds}
@@ -18,7 +17,6 @@ use Rattle.write.proofs.Results.{put_none}
 use Rattle.write.proofs.Edges.{Met, met, edge_held, all_edges, all_fits, edge_less}
 use Rattle.write.proofs.Grows.{put_length, put_fits, put_more}
 use Rattle.gone.proofs.Grows.{edges_grow, unless_long, put_unless}
-use borrow.Author.Rules.{rules}
 use native.Mathlib.Omega.{arith}
 use Rattle.left.proofs.put_left_edges.Goals as goal
 use Rattle.left.proofs.put_left_edges.Goals.{After-copy_numbers-arg-1, After-slice_known-in-loop-i-1, After-struct_known-1}

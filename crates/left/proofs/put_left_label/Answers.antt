@@ -1,13 +1,12 @@
 -- `left::put_left_label` meets its contract.
 -- Assumes nothing.
-use mathlib.Core.List.{◌∷◌, []}
+use mathlib.Core.List.{◌∷◌}
 use mathlib.Core.Path.{refl, ap, ◌∙◌}
 use Prim.Native.Nat.{ℕ, ◌+◌}
 use Rattle.le.specs.Rows.{Holds, puts}
 use Rattle.le.proofs.Rows.{holds_index}
 use Rattle.write.proofs.Results.{put_none}
 use Rattle.gone.proofs.Marks.{stays, goes}
-use borrow.Author.Rules.{rules}
 use native.Mathlib.Omega.{arith}
 use Rattle.left.proofs.put_left_label.Goals as goal
 use Rattle.left.proofs.put_left_label.Goals.{After-number, After-slice_known-2-1}

@@ -1,6 +1,6 @@
 -- `left::put_left_labels` meets its contract.
 -- Assumes nothing.
-use Prim.Native.Nat.{◌+◌, ◌-◌, ◌≤◌, ◌<◌}
+use Prim.Native.Nat.{◌+◌, ◌<◌}
 use native.Mathlib.Nat.{le_antisymm}
 use lib.ListN.{length}
 use Rattle.gone.specs.Marks.{marked}
@@ -9,8 +9,7 @@ use Rattle.le.specs.Rows.{Holds, span}
 use Rattle.write.specs.Write.{Put}
 use Rattle.le.proofs.Rows.{holds_less, holds_index}
 use Rattle.write.proofs.Results.{put_none}
-use Rattle.write.proofs.Grows.{put_length, labels_grow, put_fits, put_more}
-use borrow.Author.Rules.{rules}
+use Rattle.write.proofs.Grows.{labels_grow, put_fits, put_more}
 use native.Mathlib.Omega.{arith}
 use Rattle.left.proofs.put_left_labels.Goals as goal
 

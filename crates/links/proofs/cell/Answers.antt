@@ -2,7 +2,6 @@
 -- Assumes nothing.
 use mathlib.Core.Path.{sym, ap, ◌∙◌}
 use native.Mathlib.Omega.{arith}
-use borrow.Author.Rules.{rules}
 use Rattle.le.specs.Rows.{entry}
 use Rattle.le.specs.declared.Row.{Row}
 use Rattle.le.proofs.Numbers.{below_each}

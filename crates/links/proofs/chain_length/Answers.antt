@@ -1,11 +1,11 @@
 -- `links::chain_length` meets its contract.
 -- Assumes nothing.
-use mathlib.Core.List.{List, [], ◌∷◌}
-use mathlib.Core.Path.{◌≡◌, refl, sym, ap, ◌∙◌}
-use Prim.Native.Nat.{ℕ, ◌+◌, ◌*◌, ◌<◌}
+use mathlib.Core.List.{◌∷◌}
+use mathlib.Core.Path.{refl, sym, ap, ◌∙◌}
+use Prim.Native.Nat.{◌+◌, ◌*◌, ◌<◌}
 use lib.ListN.{length}
 use Rattle.links.specs.Links.{cell_count}
-use Rattle.links.proofs.Chains.{Going, Turned, going_start, going_turn, going_done, starts_at}
+use Rattle.links.proofs.Chains.{Turned, going_start, going_turn, going_done, starts_at}
 use native.Mathlib.Omega.{arith}
 use Rattle.links.proofs.chain_length.Goals as goal
 use Rattle.links.proofs.chain_length.Goals.{After-cell-f-in-loop-f, In-loop-f}

@@ -1,12 +1,10 @@
 -- What the loops of `links::chain_length` keep.
 -- Assumes nothing.
-use mathlib.Core.List.{List, [], ◌∷◌}
-use mathlib.Core.Path.{◌≡◌, refl, sym, ap, ◌∙◌}
-use Prim.Native.Nat.{ℕ, ◌+◌, ◌*◌, ◌<◌}
+use mathlib.Core.List.{List}
+use mathlib.Core.Path.{◌≡◌}
+use Prim.Native.Nat.{ℕ}
 use lib.ListN.{length}
-use Rattle.links.specs.Links.{cell_count}
-use Rattle.links.proofs.Chains.{Going, Turned, going_start, going_turn, going_done, starts_at}
-use native.Mathlib.Omega.{arith}
+use Rattle.links.proofs.Chains.{Going}
 use Rattle.links.proofs.chain_length.Given as goal
 
 abbrev pub invariant-loop-f : goal.invariant-loop-f

@@ -1,14 +1,10 @@
 -- What the loops of `links::count_listed` keep.
 -- Assumes nothing.
-use mathlib.Core.List.{List, [], ◌∷◌}
-use mathlib.Core.Path.{◌≡◌, refl, ap, ◌∙◌}
-use Prim.Native.Nat.{ℕ, ◌-◌, ◌≤◌}
-use native.Mathlib.Nat.{le_antisymm}
+use mathlib.Core.Path.{◌≡◌}
+use Prim.Native.Nat.{◌-◌, ◌≤◌}
 use lib.ListN.{length}
 use Rattle.graph.specs.Lists.{keep, range}
 use Rattle.links.specs.Links.{cells, is_listed}
-use Rattle.links.proofs.Cells.{keep_more, range_more}
-use native.Mathlib.Omega.{arith}
 use Rattle.links.proofs.count_listed.Given as goal
 
 abbrev pub invariant-loop-id : goal.invariant-loop-id

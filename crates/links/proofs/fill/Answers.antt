@@ -1,11 +1,8 @@
 -- `links::fill` meets its contract.
 -- Assumes nothing.
-use mathlib.Core.Path.{◌≡◌, refl, ◌∙◌}
-use Prim.Native.Nat.{◌-◌, ◌≤◌}
+use mathlib.Core.Path.{refl, ◌∙◌}
 use native.Mathlib.Nat.{le_antisymm}
 use native.Mathlib.Omega.{arith}
-use lib.ListN.{length, replicate}
-use lib.Seq.{sets}
 use Rattle.links.specs.Links.{cells}
 use Rattle.le.proofs.Tables.{fill_table}
 use Rattle.links.proofs.fill.Goals as goal

@@ -1,13 +1,10 @@
 -- What the loops of `links::fill` keep.
 -- Assumes nothing.
-use mathlib.Core.Path.{◌≡◌, refl, ◌∙◌}
+use mathlib.Core.Path.{◌≡◌}
 use Prim.Native.Nat.{◌-◌, ◌≤◌}
-use native.Mathlib.Nat.{le_antisymm}
-use native.Mathlib.Omega.{arith}
 use lib.ListN.{length, replicate}
 use lib.Seq.{sets}
 use Rattle.links.specs.Links.{cells}
-use Rattle.le.proofs.Tables.{fill_table}
 use Rattle.links.proofs.fill.Given as goal
 
 abbrev pub invariant-loop-k : goal.invariant-loop-k

@@ -1,7 +1,6 @@
 -- `links::link` meets its contract.
 -- Assumes nothing.
 use Rattle.links.specs.Links.{linked_to}
-use borrow.Author.Rules.{rules}
 use Rattle.links.proofs.link.Goals as goal
 
 pub returns : goal.returns

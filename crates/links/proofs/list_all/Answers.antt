@@ -3,7 +3,6 @@
 use mathlib.Core.Bool.{true}
 use Rattle.links.specs.Links.{cells}
 use Rattle.links.proofs.Cells.{length_cells, all_filled}
-use borrow.Author.Rules.{rules}
 use native.Mathlib.Omega.{arith}
 use Rattle.links.proofs.list_all.Goals as goal
 

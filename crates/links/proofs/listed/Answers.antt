@@ -3,7 +3,6 @@
 use mathlib.Core.Bool.{not}
 use mathlib.Core.Path.{◌∙◌}
 use lib.Dec.{eqb}
-use borrow.Author.Rules.{rules}
 use Rattle.links.specs.Links.{cells}
 use Rattle.links.proofs.Cells.{listed_at}
 use Rattle.links.proofs.listed.Goals as goal

@@ -1,7 +1,6 @@
 -- `links::one_if_listed` meets its contract.
 -- Assumes nothing.
 use mathlib.Core.Path.{sym, ◌∙◌}
-use borrow.Author.Rules.{rules}
 use native.Mathlib.Omega.{arith}
 use Rattle.links.proofs.one_if_listed.Goals as goal
 

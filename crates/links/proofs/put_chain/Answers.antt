@@ -1,13 +1,13 @@
 -- `links::put_chain` meets its contract.
 -- Assumes nothing.
-use mathlib.Core.List.{List, [], ◌∷◌}
+use mathlib.Core.List.{List, ◌∷◌}
 use mathlib.Core.Path.{◌≡◌, refl, sym, ap, ◌∙◌}
 use Prim.Native.Nat.{ℕ, ◌+◌, ◌-◌, ◌*◌, ◌≤◌, ◌<◌}
 use lib.ListN.{length}
 use Rattle.le.specs.Rows.{puts}
 use Rattle.le.proofs.Rows.{holds_less, holds_same, length_puts, puts_none}
 use Rattle.links.specs.Links.{cell_count}
-use Rattle.links.proofs.Chains.{Going, Turned, going_start, going_turn, going_within, going_done, starts_at, puts_before}
+use Rattle.links.proofs.Chains.{Turned, going_start, going_turn, going_within, going_done, starts_at, puts_before}
 use native.Mathlib.Omega.{arith}
 use Rattle.links.proofs.put_chain.Goals as goal
 use Rattle.links.proofs.put_chain.Goals.{After-cell-f-in-loop-f, After-put_number-arg-1, After-slice_known-in-loop-f-1, In-loop-f}

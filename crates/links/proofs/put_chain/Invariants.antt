@@ -1,14 +1,11 @@
 -- What the loops of `links::put_chain` keep.
 -- Assumes nothing.
-use mathlib.Core.List.{List, [], ◌∷◌}
-use mathlib.Core.Path.{◌≡◌, refl, sym, ap, ◌∙◌}
-use Prim.Native.Nat.{ℕ, ◌+◌, ◌-◌, ◌*◌, ◌≤◌, ◌<◌}
+use mathlib.Core.List.{List}
+use mathlib.Core.Path.{◌≡◌}
+use Prim.Native.Nat.{ℕ, ◌+◌}
 use lib.ListN.{length}
 use Rattle.le.specs.Rows.{puts}
-use Rattle.le.proofs.Rows.{holds_less, holds_same, length_puts, puts_none}
-use Rattle.links.specs.Links.{cell_count}
-use Rattle.links.proofs.Chains.{Going, Turned, going_start, going_turn, going_within, going_done, starts_at, puts_before}
-use native.Mathlib.Omega.{arith}
+use Rattle.links.proofs.Chains.{Going}
 use Rattle.links.proofs.put_chain.Given as goal
 
 abbrev pub invariant-loop-f : goal.invariant-loop-f

@@ -1,18 +1,17 @@
 -- `links::put_chains` meets its contract.
 -- Assumes nothing.
 use mathlib.Core.Bool.{Bool, not}
-use mathlib.Core.List.{List, ◌++◌}
-use mathlib.Core.Path.{◌≡◌, refl, ap, ◌∙◌, subst}
-use Prim.Native.Nat.{ℕ, ◌+◌, ◌-◌, ◌≤◌}
+use mathlib.Core.List.{◌++◌}
+use mathlib.Core.Path.{refl, ap, ◌∙◌, subst}
+use Prim.Native.Nat.{ℕ, ◌+◌}
 use native.Mathlib.Nat.{le_antisymm}
 use native.Mathlib.Numerals.{add-one}
 use lib.ListN.{length}
 use Rattle.le.proofs.Rows.{holds_less, holds_same, holds_index}
-use Rattle.links.specs.Links.{Chain, itself}
+use Rattle.links.specs.Links.{itself}
 use Rattle.write.specs.Write.{Put}
 use Rattle.write.proofs.Results.{put_none, put_then}
 use Rattle.links.proofs.Spiders.{with_itself, at_most_one, on_side, one_side, sides_before, side_room, side_length, side_chain, row_done}
-use borrow.Author.Rules.{rules}
 use native.Mathlib.Omega.{arith}
 use Rattle.links.proofs.put_chains.Goals as goal
 

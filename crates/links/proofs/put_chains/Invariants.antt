@@ -1,19 +1,12 @@
 -- What the loops of `links::put_chains` keep.
 -- Assumes nothing.
-use mathlib.Core.Bool.{Bool, not}
-use mathlib.Core.List.{List, ◌++◌}
-use mathlib.Core.Path.{◌≡◌, refl, ap, ◌∙◌, subst}
+use mathlib.Core.List.{List}
+use mathlib.Core.Path.{◌≡◌}
 use Prim.Native.Nat.{ℕ, ◌+◌, ◌-◌, ◌≤◌}
-use native.Mathlib.Nat.{le_antisymm}
-use native.Mathlib.Numerals.{add-one}
 use lib.ListN.{length}
-use Rattle.le.proofs.Rows.{holds_less, holds_same, holds_index}
-use Rattle.links.specs.Links.{Chain, itself}
+use Rattle.links.specs.Links.{Chain}
 use Rattle.write.specs.Write.{Put}
-use Rattle.write.proofs.Results.{put_none, put_then}
-use Rattle.links.proofs.Spiders.{with_itself, at_most_one, on_side, one_side, sides_before, side_room, side_length, side_chain, row_done}
-use borrow.Author.Rules.{rules}
-use native.Mathlib.Omega.{arith}
+use Rattle.links.proofs.Spiders.{on_side, sides_before}
 use Rattle.links.proofs.put_chains.Given as goal
 
 abbrev pub invariant-loop-half : goal.invariant-loop-half

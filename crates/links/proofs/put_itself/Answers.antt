@@ -5,7 +5,6 @@ use mathlib.Core.Path.{◌≡◌, refl}
 use borrow.Author.Tests.{not-true, not-false}
 use Rattle.le.proofs.Rows.{holds_index}
 use Rattle.write.proofs.Results.{put_none}
-use borrow.Author.Rules.{rules}
 use native.Mathlib.Omega.{arith}
 use Rattle.links.proofs.put_itself.Goals as goal
 use Rattle.links.proofs.put_itself.Goals.{After-put_number-arg-1, After-slice_known-2-1}

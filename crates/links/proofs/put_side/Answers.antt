@@ -8,7 +8,6 @@ use Rattle.le.specs.Rows.{puts}
 use Rattle.le.proofs.Rows.{holds_less, holds_same, holds_index}
 use Rattle.links.specs.Links.{itself}
 use Rattle.write.proofs.Results.{put_then}
-use borrow.Author.Rules.{rules}
 use native.Mathlib.Omega.{arith}
 use Rattle.links.proofs.put_side.Goals as goal
 use Rattle.links.proofs.put_side.Goals.{After-put_chain-arg-1, After-put_itself-arg-1, After-slice_known-2-1}

@@ -3,7 +3,7 @@
 use mathlib.Core.Bool.{true}
 use mathlib.Core.List.{List}
 use mathlib.Core.Path.{◌≡◌, refl, sym, ap, ◌∙◌, subst}
-use Prim.Native.Nat.{ℕ, ◌+◌, ◌*◌, ◌-◌, ◌≤◌, ◌<◌}
+use Prim.Native.Nat.{ℕ, ◌+◌, ◌*◌, ◌<◌}
 use native.Mathlib.Nat.{le_antisymm}
 use lib.ListN.{length}
 use borrow.Author.Tests.{not-true, not-false}
@@ -13,7 +13,6 @@ use Rattle.write.specs.Write.{Put}
 use Rattle.write.proofs.Results.{put_none, put_then}
 use Rattle.links.proofs.Chains.{chain_of}
 use Rattle.links.proofs.Spiders.{side_rows, sides_more, sides_room, none_of, both_of}
-use borrow.Author.Rules.{rules}
 use native.Mathlib.Omega.{arith}
 use Rattle.links.proofs.put_spider.Goals as goal
 use Rattle.links.proofs.put_spider.Goals.{After-loop-side, After-put_chains-arg-1, After-slice_known-in-loop-side-1}

@@ -1,12 +1,10 @@
 -- `links::put_spiders` meets its contract.
 -- Assumes nothing.
-use mathlib.Core.List.{List}
-use mathlib.Core.Path.{◌≡◌, refl, ◌∙◌, subst}
-use Prim.Native.Nat.{ℕ, ◌-◌, ◌≤◌}
+use mathlib.Core.Path.{refl, ◌∙◌, subst}
+use Prim.Native.Nat.{ℕ}
 use native.Mathlib.Nat.{le_antisymm}
-use lib.ListN.{length}
 use Rattle.le.proofs.Rows.{holds_less, holds_same}
-use Rattle.links.specs.Links.{cells, Table, spiders}
+use Rattle.links.specs.Links.{cells, spiders}
 use Rattle.write.specs.Write.{Put}
 use Rattle.write.proofs.Results.{put_none, put_then}
 use Rattle.links.proofs.Spiders.{spiders_more, spiders_room}

@@ -1,16 +1,11 @@
 -- What the loops of `links::put_spiders` keep.
 -- Assumes nothing.
 use mathlib.Core.List.{List}
-use mathlib.Core.Path.{◌≡◌, refl, ◌∙◌, subst}
+use mathlib.Core.Path.{◌≡◌}
 use Prim.Native.Nat.{ℕ, ◌-◌, ◌≤◌}
-use native.Mathlib.Nat.{le_antisymm}
 use lib.ListN.{length}
-use Rattle.le.proofs.Rows.{holds_less, holds_same}
 use Rattle.links.specs.Links.{cells, Table, spiders}
 use Rattle.write.specs.Write.{Put}
-use Rattle.write.proofs.Results.{put_none, put_then}
-use Rattle.links.proofs.Spiders.{spiders_more, spiders_room}
-use native.Mathlib.Omega.{arith}
 use Rattle.links.proofs.put_spiders.Given as goal
 
 abbrev pub invariant-loop-id : goal.invariant-loop-id

@@ -1,10 +1,9 @@
 -- `lists::first_bad` meets its contract.
 -- Assumes nothing.
 use mathlib.Core.Path.{◌≡◌, subst}
-use Prim.Native.Nat.{◌≤◌, ◌-◌, ◌+◌, ◌*◌}
+use Prim.Native.Nat.{◌≤◌, ◌+◌, ◌*◌}
 use native.Mathlib.Nat.{mul-le-mul_right}
 use native.Mathlib.Omega.{arith}
-use borrow.Author.Rules.{rules}
 use Rattle.lists.proofs.FirstBad.{Left, all_left, here_bad, one_on, none_left}
 use Rattle.lists.proofs.first_bad.Goals as goal
 use Rattle.lists.proofs.first_bad.Goals.{In-loop-k}

@@ -1,11 +1,10 @@
 -- `lists::highest_of` meets its contract.
 -- Assumes nothing.
 use mathlib.Core.Bool.{Bool, true, false}
-use mathlib.Core.List.{List, ◌∷◌, [], ◌++◌}
+use mathlib.Core.List.{◌∷◌, ◌++◌}
 use mathlib.Core.Path.{◌≡◌, refl, sym, ap, ◌∙◌}
-use Prim.Native.Nat.{ℕ, ◌≤◌, ◌<◌, ◌-◌, ◌+◌, ◌*◌}
+use Prim.Native.Nat.{ℕ, ◌≤◌, ◌<◌, ◌+◌, ◌*◌}
 use native.Mathlib.Nat.{mul-le-mul_right}
-use borrow.Author.Rules.{rules}
 use native.Mathlib.Omega.{arith}
 use lib.Dec.{ltb}
 use borrow.Author.Tests.{ltb-true, ltb-false}
@@ -15,7 +14,6 @@ use Rattle.le.proofs.Rows.{wide_some, span_next}
 use Rattle.lists.specs.Reach.{highest}
 use Rattle.lists.proofs.Reach.{highest_next}
 use Rattle.lists.proofs.highest_of.Goals as goal
-use Rattle.lists.proofs.highest_of.Invariants.{Looked}
 use Rattle.lists.proofs.highest_of.Goals.{After-higher-most, In-loop-place}
 
 -- a place before the end is that of an id

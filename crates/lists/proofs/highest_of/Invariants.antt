@@ -1,19 +1,10 @@
 -- What the loops of `lists::highest_of` keep.
 -- Assumes nothing.
-use mathlib.Core.Bool.{Bool, true, false}
-use mathlib.Core.List.{List, ◌∷◌, [], ◌++◌}
-use mathlib.Core.Path.{◌≡◌, refl, sym, ap, ◌∙◌}
-use Prim.Native.Nat.{ℕ, ◌≤◌, ◌<◌, ◌-◌, ◌+◌, ◌*◌}
-use native.Mathlib.Nat.{mul-le-mul_right}
-use borrow.Author.Rules.{rules}
-use native.Mathlib.Omega.{arith}
-use lib.Dec.{ltb}
-use borrow.Author.Tests.{ltb-true, ltb-false}
-use Rattle.le.specs.Le.{number_at}
-use Rattle.le.specs.Rows.{row_at, entry, span}
-use Rattle.le.proofs.Rows.{wide_some, span_next}
+use mathlib.Core.List.{List}
+use mathlib.Core.Path.{◌≡◌}
+use Prim.Native.Nat.{ℕ, ◌≤◌, ◌-◌, ◌+◌, ◌*◌}
+use Rattle.le.specs.Rows.{row_at, span}
 use Rattle.lists.specs.Reach.{highest}
-use Rattle.lists.proofs.Reach.{highest_next}
 use Rattle.lists.proofs.highest_of.Given as goal
 
 -- k ids are looked at, and the place is that of the next

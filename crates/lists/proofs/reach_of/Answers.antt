@@ -4,7 +4,6 @@ use mathlib.Core.Path.{◌≡◌, ap}
 use Prim.Native.Nat.{ℕ, ◌<◌}
 use native.Mathlib.Omega.{arith}
 use lib.ListN.{length, drop}
-use borrow.Author.Rules.{rules}
 use Rattle.le.specs.Le.{numbers}
 use Rattle.le.specs.Rows.{row_at, place_in, span}
 use Rattle.le.proofs.Rows.{length_span}

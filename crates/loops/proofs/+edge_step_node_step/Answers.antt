@@ -1,14 +1,13 @@
 -- `loops::node_step` and `loops::edge_step`, which call each other, meet their contracts.
 -- Assumes nothing.
-use mathlib.Core.Path.{◌≡◌, sym, ◌∙◌}
+use mathlib.Core.Path.{sym, ◌∙◌}
 use native.Mathlib.Omega.{arith}
-use Prim.Native.Nat.{ℕ, ◌*◌, ◌<◌}
+use Prim.Native.Nat.{◌*◌}
 use Rattle.le.specs.Le.{words}
 use Rattle.le.specs.Rows.{row_at}
 use Rattle.removal.specs.Room.{source}
-use Rattle.loops.specs.Walk.{next_in, AtNode, AtEdge}
 use Rattle.loops.proofs.Next.{core_low, next_of_node, next_of_edge}
-use Rattle.loops.proofs.Steps.{at_low, next_low, some_left_lem, node_met, edge_met, edge_next, node_gone, node_next, edge_gone}
+use Rattle.loops.proofs.Steps.{next_low, some_left_lem, node_met, edge_met, edge_next, node_gone, node_next, edge_gone}
 use Rattle.loops.proofs.+edge_step_node_step.Goals as goal
 
 -- ---- from the edge: where the walk goes is `next_of_edge`, and it is a node that was not met or the one that was

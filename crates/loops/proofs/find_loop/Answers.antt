@@ -1,13 +1,11 @@
 -- `loops::find_loop` meets its contract.
 -- Assumes nothing.
-use mathlib.Core.List.{[]}
 use mathlib.Core.Path.{◌≡◌, refl, sym, ap, ◌∙◌, subst}
 use Prim.Native.Nat.{ℕ, ◌+◌, ◌-◌, ◌≤◌}
 use native.Mathlib.Omega.{arith}
 use lib.ListN.{length}
-use borrow.Author.Rules.{rules}
 use Rattle.choice.specs.Calls.{showing, room_find_loop, loop_found, find_loop_call}
-use Rattle.choice.specs.Loop.{Loop, none_shown, loop}
+use Rattle.choice.specs.Loop.{loop}
 use Rattle.form.specs.Form.{body_of, Gives}
 use Rattle.form.specs.Stored.{stored_of, graph_of, format_of, Stored}
 use Rattle.form.specs.declared.Outcome.TheVariants.{Done}

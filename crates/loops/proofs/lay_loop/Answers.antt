@@ -2,11 +2,11 @@
 -- Assumes nothing.
 use mathlib.Core.List.{List, ◌∷◌}
 use mathlib.Core.Logic.{inl}
-use mathlib.Core.Path.{◌≡◌, refl, sym, ap, ◌∙◌, subst}
-use Prim.Native.Nat.{ℕ, ◌+◌, ◌-◌, ◌*◌, ◌≤◌, ◌<◌}
+use mathlib.Core.Path.{◌≡◌, refl, sym, ◌∙◌, subst}
+use Prim.Native.Nat.{ℕ, ◌+◌, ◌*◌, ◌≤◌, ◌<◌}
 use native.Mathlib.Omega.{arith}
-use lib.ListN.{length, set}
-use Rattle.le.specs.Le.{words, Outside}
+use lib.ListN.{length}
+use Rattle.le.specs.Le.{words}
 use Rattle.le.proofs.Frames.{outside_none, outside_trans, outside_set}
 use Rattle.le.proofs.Places.{length_words}
 use Rattle.tables.specs.Tables.{most_vertices, waiting_at, picked_at}

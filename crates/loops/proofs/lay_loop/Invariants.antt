@@ -1,19 +1,14 @@
 -- What the loops of `loops::lay_loop` keep.
 -- Assumes nothing.
-use mathlib.Core.List.{List, ◌∷◌}
-use mathlib.Core.Logic.{inl}
-use mathlib.Core.Path.{◌≡◌, refl, sym, ap, ◌∙◌, subst}
-use Prim.Native.Nat.{ℕ, ◌+◌, ◌-◌, ◌*◌, ◌≤◌, ◌<◌}
-use native.Mathlib.Omega.{arith}
-use lib.ListN.{length, set}
-use Rattle.le.specs.Le.{words, Outside}
-use Rattle.le.proofs.Frames.{outside_none, outside_trans, outside_set}
-use Rattle.le.proofs.Places.{length_words}
-use Rattle.tables.specs.Tables.{most_vertices, waiting_at, picked_at}
-use Rattle.removal.specs.Room.{source, Lists}
-use Rattle.removal.proofs.Peeling.{lists_same}
-use Rattle.loops.specs.Walk.{next_in, Looping, LaidTo, LaidIn}
-use Rattle.loops.proofs.Laying.{Beside, next_same, laid_start, laid_low, laid_few, laid_next, laid_done}
+use mathlib.Core.List.{◌∷◌}
+use mathlib.Core.Path.{◌≡◌}
+use Prim.Native.Nat.{◌-◌}
+use lib.ListN.{length}
+use Rattle.le.specs.Le.{words}
+use Rattle.tables.specs.Tables.{most_vertices}
+use Rattle.removal.specs.Room.{source}
+use Rattle.loops.specs.Walk.{Looping, LaidTo}
+use Rattle.loops.proofs.Laying.{Beside}
 use Rattle.loops.proofs.lay_loop.Given as goal
 
 abbrev pub invariant-loop-v : goal.invariant-loop-v

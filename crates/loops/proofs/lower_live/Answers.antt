@@ -1,11 +1,8 @@
 -- `loops::lower_live` meets its contract.
 -- Assumes nothing.
-use Prim.Native.Nat.{◌*◌}
-use native.Mathlib.Omega.{arith}
-use mathlib.Core.Path.{◌≡◌, sym, ◌∙◌}
+use mathlib.Core.Path.{sym, ◌∙◌}
 use Rattle.le.specs.Le.{words}
 use Rattle.loops.proofs.Next.{lower_kept, lower_gone, lower_taken}
-use borrow.Author.Rules.{rules}
 use Rattle.loops.proofs.lower_live.Goals as goal
 
 pub returns-then-best-v : goal.returns-then-best-v

@@ -1,11 +1,10 @@
 -- `loops::lowest_edge` meets its contract.
 -- Assumes nothing.
-use mathlib.Core.Path.{◌≡◌, ◌∙◌}
+use mathlib.Core.Path.{◌∙◌}
 use Rattle.le.specs.Le.{words}
 use Rattle.tables.specs.Tables.{most_vertices}
 use Rattle.removal.specs.Room.{room_list}
 use Rattle.loops.specs.Walk.{lowest_live, vertices_of}
-use borrow.Author.Rules.{rules}
 use Rattle.loops.proofs.lowest_edge.Goals as goal
 
 pub returns : goal.returns

@@ -1,15 +1,11 @@
 -- What the loops of `loops::lowest_formed` keep.
 -- Assumes nothing.
-use mathlib.Core.Path.{◌≡◌, ap, ◌∙◌}
-use Prim.Native.Nat.{ℕ, ◌-◌, ◌≤◌}
-use native.Mathlib.Nat.{le_antisymm}
-use native.Mathlib.Omega.{arith}
+use mathlib.Core.Path.{◌≡◌}
+use Prim.Native.Nat.{◌-◌, ◌≤◌}
 use Rattle.le.specs.Le.{words}
 use Rattle.le.specs.Rows.{span}
-use Rattle.le.proofs.Rows.{holds_index, holds_less}
 use Rattle.tables.specs.Tables.{most_vertices}
-use Rattle.loops.specs.Walk.{lower_live, lowest_live}
-use Rattle.loops.proofs.Next.{lowest_few, formed_none, formed_more}
+use Rattle.loops.specs.Walk.{lowest_live}
 use Rattle.loops.proofs.lowest_formed.Given as goal
 
 abbrev pub invariant-loop-j : goal.invariant-loop-j

@@ -1,16 +1,11 @@
 -- What the loops of `loops::lowest_listed` keep.
 -- Assumes nothing.
-use mathlib.Core.Path.{◌≡◌, ap, ◌∙◌}
-use Prim.Native.Nat.{ℕ, ◌-◌, ◌≤◌}
-use native.Mathlib.Nat.{le_antisymm}
-use native.Mathlib.Omega.{arith}
+use mathlib.Core.Path.{◌≡◌}
+use Prim.Native.Nat.{◌-◌, ◌≤◌}
 use Rattle.le.specs.Le.{words}
-use Rattle.le.proofs.Places.{length_words}
-use Rattle.halves.specs.Halves.{vertex}
 use Rattle.tables.specs.Tables.{most_vertices}
 use Rattle.removal.specs.Room.{room_list}
-use Rattle.loops.specs.Walk.{lower_live, lowest_live, vertices_of}
-use Rattle.loops.proofs.Next.{lowest_few, listed_none, listed_more}
+use Rattle.loops.specs.Walk.{lowest_live, vertices_of}
 use Rattle.loops.proofs.lowest_listed.Given as goal
 
 abbrev pub invariant-loop-j : goal.invariant-loop-j

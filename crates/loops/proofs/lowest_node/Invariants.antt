@@ -1,13 +1,9 @@
 -- What the loops of `loops::lowest_node` keep.
 -- Assumes nothing.
-use mathlib.Core.Logic.{inl, inr}
-use mathlib.Core.Path.{◌≡◌, sym, ◌∙◌}
+use mathlib.Core.Path.{◌≡◌}
 use Prim.Native.Nat.{ℕ, ◌-◌, ◌*◌, ◌≤◌, ◌<◌}
-use native.Mathlib.Nat.{le_antisymm}
-use native.Mathlib.Omega.{arith}
 use lib.ListN.{get_or}
 use Rattle.le.specs.Le.{words}
-use Rattle.loops.proofs.Next.{all_before}
 use Rattle.loops.proofs.lowest_node.Given as goal
 
 abbrev pub invariant-loop-v : goal.invariant-loop-v

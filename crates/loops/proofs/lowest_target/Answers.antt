@@ -1,13 +1,12 @@
 -- `loops::lowest_target` meets its contract.
 -- Assumes nothing.
-use mathlib.Core.Path.{◌≡◌, sym, ◌∙◌, subst}
+use mathlib.Core.Path.{sym, ◌∙◌, subst}
 use Prim.Native.Nat.{◌+◌}
 use native.Mathlib.Omega.{arith}
 use Rattle.le.specs.Le.{words}
 use Rattle.le.specs.Rows.{Holds, span}
 use Rattle.tables.specs.Tables.{most_vertices}
 use Rattle.loops.specs.Walk.{lowest_live}
-use borrow.Author.Rules.{rules}
 use Rattle.loops.proofs.lowest_target.Goals as goal
 
 pub lowest_formed-requires : goal.lowest_formed-requires

@@ -2,7 +2,7 @@
 -- Assumes nothing.
 use mathlib.Core.Logic.{inr}
 use mathlib.Core.Path.{◌≡◌, refl, ap, ◌∙◌}
-use Prim.Native.Nat.{ℕ, ◌+◌, ◌*◌, ◌≤◌}
+use Prim.Native.Nat.{◌≤◌}
 use native.Mathlib.Nat.{mul-le-mul_right}
 use native.Mathlib.Omega.{arith}
 use lib.ListN.{length}
@@ -14,7 +14,6 @@ use Rattle.tables.specs.Tables.{waiting_at}
 use Rattle.removal.specs.Room.{part}
 use Rattle.removal.proofs.Tables.{part_length}
 use Rattle.loops.proofs.Calls.{span_part, showing_10, showing_0}
-use borrow.Author.Rules.{rules}
 use Rattle.loops.proofs.put_loop.Goals as goal
 use Rattle.loops.proofs.put_loop.Goals.{After-slice_known-2-1, Then-list-count}
 

@@ -1,8 +1,8 @@
 -- `loops::show_loop` meets its contract.
 -- Assumes nothing.
 use mathlib.Core.List.{◌∷◌}
-use mathlib.Core.Path.{◌≡◌, sym, ap, ◌∙◌, subst}
-use Prim.Native.Nat.{ℕ, ◌+◌, ◌-◌, ◌≤◌}
+use mathlib.Core.Path.{sym, ◌∙◌, subst}
+use Prim.Native.Nat.{◌+◌, ◌-◌}
 use native.Mathlib.Omega.{arith}
 use lib.Dec.{ltb}
 use lib.ListN.{length}
@@ -15,12 +15,10 @@ use Rattle.form.proofs.Stored.{stored_rows}
 use Rattle.le.specs.Le.{words}
 use Rattle.le.specs.declared.Row.{Row}
 use Rattle.le.proofs.Places.{length_words}
-use Rattle.tables.specs.Tables.{picked_at, waiting_at}
-use Rattle.removal.specs.Room.{source, part}
+use Rattle.removal.specs.Room.{source}
 use Rattle.cycle.proofs.Begin.{drawn}
-use Rattle.loops.specs.Walk.{Closes, Starting, Looping, LaidIn, loop_as}
+use Rattle.loops.specs.Walk.{Closes, Starting, Looping, LaidIn}
 use Rattle.loops.proofs.Show.{starting, loop_walked, ring, ring_short, looping, laid_shown}
-use borrow.Author.Rules.{rules}
 use Rattle.loops.proofs.show_loop.Goals as goal
 use Rattle.loops.proofs.show_loop.Goals.{After-body_row-r, After-lay_loop-arg-1, After-put_loop-arg-1, After-slice_known-4-1}
 

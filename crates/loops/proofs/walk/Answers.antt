@@ -1,7 +1,6 @@
 -- `loops::walk` meets its contract.
 -- Assumes nothing.
 use Rattle.loops.proofs.Steps.{start_at, start_walk}
-use borrow.Author.Rules.{rules}
 use Rattle.loops.proofs.walk.Goals as goal
 
 pub node_step-steps-requires : goal.node_step-steps-requires

@@ -1,6 +1,6 @@
 -- `marks::is_loose` meets its contract.
 -- Assumes nothing.
-use Rattle.std.proofs.Common.{◌%◌, Bool, ◌&&◌, get_or, sym, ap, ◌∙◌, rules, eq-eqb, ne_eqb}
+use Rattle.std.proofs.Common.{◌%◌, Bool, ◌&&◌, get_or, sym, ap, ◌∙◌, eq-eqb, ne_eqb}
 use Rattle.marks.specs.Tables.{nought, degrees, loose}
 use Rattle.marks.proofs.is_loose.Goals as goal
 

@@ -1,6 +1,6 @@
 -- `marks::mark_all` meets its contract.
 -- Assumes nothing.
-use Rattle.std.proofs.Common.{◌≡◌, ℕ, ◌-◌, ◌≤◌, length, set, replicate, refl, ap, ◌∙◌, le_antisymm, arith, length-set}
+use Rattle.std.proofs.Common.{ℕ, set, replicate, refl, ap, ◌∙◌, le_antisymm, arith, length-set}
 use lib.Seq.{sets}
 use Rattle.le.proofs.Tables.{fill_front}
 use Rattle.marks.proofs.mark_all.Goals as goal

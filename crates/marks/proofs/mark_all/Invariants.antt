@@ -1,8 +1,7 @@
 -- What the loops of `marks::mark_all` keep.
 -- Assumes nothing.
-use Rattle.std.proofs.Common.{◌≡◌, ℕ, ◌-◌, ◌≤◌, length, set, replicate, refl, ap, ◌∙◌, le_antisymm, arith, length-set}
+use Rattle.std.proofs.Common.{◌≡◌, ◌-◌, ◌≤◌, length, replicate}
 use lib.Seq.{sets}
-use Rattle.le.proofs.Tables.{fill_front}
 use Rattle.marks.proofs.mark_all.Given as goal
 
 abbrev pub invariant-loop-v : goal.invariant-loop-v

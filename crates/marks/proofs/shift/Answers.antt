@@ -1,6 +1,6 @@
 -- `marks::shift` meets its contract.
 -- Assumes nothing.
-use Rattle.std.proofs.Common.{ℕ, ◌+◌, ◌*◌, ◌%◌, ◌^◌, ap, ◌∙◌, rules}
+use Rattle.std.proofs.Common.{ℕ, ◌+◌, ◌*◌, ◌%◌, ◌^◌, ap, ◌∙◌}
 use lib.Seq.{sets}
 use Rattle.le.specs.Le.{bytes}
 use Rattle.marks.specs.Tables.{degrees_at, shifted}

@@ -1,6 +1,6 @@
 -- `marks::shift_each` meets its contract.
 -- Assumes nothing.
-use Rattle.std.proofs.Common.{◌≡◌, ℕ, ◌-◌, ◌≤◌, length, refl, ap, ◌∙◌, le_antisymm, arith}
+use Rattle.std.proofs.Common.{ℕ, refl, ap, ◌∙◌, le_antisymm, arith}
 use Rattle.le.specs.Rows.{span}
 use Rattle.le.proofs.Rows.{holds_less, holds_index}
 use Rattle.marks.specs.Tables.{most_nodes, shifted_all}

@@ -1,10 +1,8 @@
 -- What the loops of `marks::shift_each` keep.
 -- Assumes nothing.
-use Rattle.std.proofs.Common.{◌≡◌, ℕ, ◌-◌, ◌≤◌, length, refl, ap, ◌∙◌, le_antisymm, arith}
+use Rattle.std.proofs.Common.{◌≡◌, ◌-◌, ◌≤◌, length}
 use Rattle.le.specs.Rows.{span}
-use Rattle.le.proofs.Rows.{holds_less, holds_index}
-use Rattle.marks.specs.Tables.{most_nodes, shifted_all}
-use Rattle.marks.proofs.Loops.{read_low, shift_turn}
+use Rattle.marks.specs.Tables.{shifted_all}
 use Rattle.marks.proofs.shift_each.Given as goal
 
 abbrev pub invariant-loop-j : goal.invariant-loop-j

@@ -1,6 +1,6 @@
 -- `marks::some_left` meets its contract.
 -- Assumes nothing.
-use Rattle.std.proofs.Common.{◌≡◌, ℕ, ◌-◌, ◌%◌, ◌≤◌, false, get_or, sym, refl, ap, ◌∙◌, le_antisymm, arith, eq-eqb}
+use Rattle.std.proofs.Common.{ℕ, ◌%◌, false, get_or, sym, refl, ap, ◌∙◌, le_antisymm, arith, eq-eqb}
 use Rattle.le.specs.Rows.{span}
 use Rattle.le.proofs.Rows.{holds_less, holds_index}
 use Rattle.marks.specs.Tables.{most_nodes, some_left}

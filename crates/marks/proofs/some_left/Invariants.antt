@@ -1,10 +1,8 @@
 -- What the loops of `marks::some_left` keep.
 -- Assumes nothing.
-use Rattle.std.proofs.Common.{◌≡◌, ℕ, ◌-◌, ◌%◌, ◌≤◌, false, get_or, sym, refl, ap, ◌∙◌, le_antisymm, arith, eq-eqb}
+use Rattle.std.proofs.Common.{◌≡◌, ◌-◌, ◌≤◌, false}
 use Rattle.le.specs.Rows.{span}
-use Rattle.le.proofs.Rows.{holds_less, holds_index}
-use Rattle.marks.specs.Tables.{most_nodes, some_left}
-use Rattle.marks.proofs.Loops.{read_low, some_found, none_found}
+use Rattle.marks.specs.Tables.{some_left}
 use Rattle.marks.proofs.some_left.Given as goal
 
 abbrev pub invariant-loop-j : goal.invariant-loop-j

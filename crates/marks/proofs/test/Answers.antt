@@ -1,6 +1,6 @@
 -- `marks::test` meets its contract.
 -- Assumes nothing.
-use Rattle.std.proofs.Common.{Bool, sym, ap, ◌∙◌, rules}
+use Rattle.std.proofs.Common.{Bool, sym, ap, ◌∙◌}
 use borrow.Author.Tests.{not-true, not-false}
 use Rattle.choice.specs.Arcs.{bump}
 use Rattle.marks.proofs.Tables.{tested_yes, tested_no}

@@ -1,6 +1,6 @@
 -- `marks::test_all` meets its contract.
 -- Assumes nothing.
-use Rattle.std.proofs.Common.{◌≡◌, ℕ, ◌-◌, ◌≤◌, length, refl, ◌∙◌, subst, le_antisymm, arith}
+use Rattle.std.proofs.Common.{◌≡◌, ℕ, ◌≤◌, refl, ◌∙◌, subst, le_antisymm, arith}
 use Rattle.marks.specs.Tables.{loose, tested_all, went_of, up_to}
 use Rattle.marks.proofs.Loops.{count_turn, bump_few}
 use Rattle.marks.proofs.test_all.Goals as goal

@@ -1,8 +1,7 @@
 -- What the loops of `marks::test_all` keep.
 -- Assumes nothing.
-use Rattle.std.proofs.Common.{◌≡◌, ℕ, ◌-◌, ◌≤◌, length, refl, ◌∙◌, subst, le_antisymm, arith}
-use Rattle.marks.specs.Tables.{loose, tested_all, went_of, up_to}
-use Rattle.marks.proofs.Loops.{count_turn, bump_few}
+use Rattle.std.proofs.Common.{◌≡◌, ◌-◌, ◌≤◌, length}
+use Rattle.marks.specs.Tables.{tested_all, went_of, up_to}
 use Rattle.marks.proofs.test_all.Given as goal
 
 abbrev pub invariant-loop-v : goal.invariant-loop-v

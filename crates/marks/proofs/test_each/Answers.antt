@@ -1,6 +1,6 @@
 -- `marks::test_each` meets its contract.
 -- Assumes nothing.
-use Rattle.std.proofs.Common.{◌≡◌, ℕ, ◌-◌, ◌≤◌, length, refl, ◌∙◌, subst, le_antisymm, arith}
+use Rattle.std.proofs.Common.{◌≡◌, ℕ, ◌≤◌, refl, ◌∙◌, subst, le_antisymm, arith}
 use Rattle.le.specs.Rows.{span}
 use Rattle.le.proofs.Rows.{holds_less, holds_index}
 use Rattle.marks.specs.Tables.{most_nodes, loose, tested_all, went_of}

@@ -1,10 +1,8 @@
 -- What the loops of `marks::test_each` keep.
 -- Assumes nothing.
-use Rattle.std.proofs.Common.{◌≡◌, ℕ, ◌-◌, ◌≤◌, length, refl, ◌∙◌, subst, le_antisymm, arith}
+use Rattle.std.proofs.Common.{◌≡◌, ◌-◌, ◌≤◌, length}
 use Rattle.le.specs.Rows.{span}
-use Rattle.le.proofs.Rows.{holds_less, holds_index}
-use Rattle.marks.specs.Tables.{most_nodes, loose, tested_all, went_of}
-use Rattle.marks.proofs.Loops.{read_low, test_turn, bump_few}
+use Rattle.marks.specs.Tables.{tested_all, went_of}
 use Rattle.marks.proofs.test_each.Given as goal
 
 abbrev pub invariant-loop-j : goal.invariant-loop-j

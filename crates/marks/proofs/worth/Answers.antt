@@ -1,6 +1,6 @@
 -- `marks::worth` meets its contract.
 -- Assumes nothing.
-use Rattle.std.proofs.Common.{ℕ, ◌*◌, ◌/◌, ◌%◌, ◌≤◌, Bool, cond, get_or, sym, ap, ◌∙◌, mul-le-mul_right, mul-le-mul_left, arith, rules, eq-eqb, ne_eqb}
+use Rattle.std.proofs.Common.{ℕ, ◌*◌, ◌/◌, ◌%◌, ◌≤◌, Bool, cond, get_or, sym, ap, ◌∙◌, mul-le-mul_right, mul-le-mul_left, arith, eq-eqb, ne_eqb}
 use Rattle.marks.specs.Tables.{degrees, worth_in}
 use Rattle.marks.proofs.worth.Goals as goal
 

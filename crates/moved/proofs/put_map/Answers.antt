@@ -1,22 +1,19 @@
 -- `moved::put_map` meets its contract.
 -- Assumes nothing.
 use mathlib.Core.Bool.{cond}
-use mathlib.Core.List.{◌∷◌, []}
-use Prim.Native.Nat.{ℕ, ◌+◌, ◌-◌, ◌^◌, ◌≤◌, ◌<◌}
+use mathlib.Core.List.{◌∷◌}
+use Prim.Native.Nat.{ℕ, ◌+◌, ◌-◌, ◌^◌, ◌<◌}
 use native.Mathlib.Nat.{le_antisymm}
-use mathlib.Core.Path.{◌≡◌, refl, ap, ◌∙◌}
+use mathlib.Core.Path.{refl, ap, ◌∙◌}
 use Rattle.gone.specs.Marks.{marked}
 use Rattle.moved.specs.Places.{places_of}
-use Rattle.graph.specs.Delete.{new_id}
 use Rattle.le.specs.Rows.{puts}
-use Rattle.write.specs.Write.{Put}
 use Rattle.graph.proofs.Kept.{new_id_le}
 use Rattle.le.proofs.Rows.{holds_less, holds_same}
 use Rattle.write.proofs.Results.{put_none}
 use Rattle.write.proofs.Grows.{put_length, put_more}
 use Rattle.gone.proofs.Grows.{new_id_more}
 use Rattle.moved.proofs.Places.{places_grow}
-use borrow.Author.Rules.{rules}
 use native.Mathlib.Omega.{arith}
 use Rattle.moved.proofs.put_map.Goals as goal
 

@@ -1,7 +1,7 @@
 -- `moved::put_moved` meets its contract.
 -- Assumes nothing.
 use mathlib.Core.Bool.{false}
-use mathlib.Core.List.{◌∷◌, []}
+use mathlib.Core.List.{◌∷◌}
 use mathlib.Core.Path.{◌≡◌, refl, sym, ap, ◌∙◌}
 use Prim.Native.Nat.{ℕ, ◌+◌}
 use Rattle.moved.specs.Places.{gone_in}
@@ -10,7 +10,6 @@ use Rattle.le.proofs.Rows.{holds_less, holds_index}
 use Rattle.write.proofs.Results.{put_none}
 use Rattle.gone.proofs.Grows.{gone, kept}
 use Rattle.moved.proofs.Places.{placed, unplaced}
-use borrow.Author.Rules.{rules}
 use native.Mathlib.Omega.{arith}
 use Rattle.moved.proofs.put_moved.Goals as goal
 use Rattle.moved.proofs.put_moved.Goals.{After-put_number-arg-1, After-slice_known-2-1}

@@ -1,9 +1,8 @@
 -- `moved::put_moved_edge` meets its contract.
 -- Assumes nothing.
-use mathlib.Core.List.{List, ◌∷◌, [], ◌++◌}
-use mathlib.Core.Logic.{⊎_elim}
+use mathlib.Core.List.{List, ◌∷◌, ◌++◌}
 use mathlib.Core.Path.{◌≡◌, sym, ap, ◌∙◌, subst}
-use Prim.Native.Nat.{ℕ, ◌+◌, ◌-◌, ◌≤◌}
+use Prim.Native.Nat.{ℕ, ◌+◌, ◌-◌}
 use native.Mathlib.Nat.{le_antisymm}
 use lib.ListN.{length, length-append}
 use Rattle.moved.specs.Places.{gone_in, edge_of}
@@ -18,7 +17,6 @@ use Rattle.write.proofs.Results.{put_none}
 use Rattle.write.proofs.Parts.{counts_last}
 use Rattle.write.proofs.Grows.{entry_below, put_length, put_fits, put_more}
 use Rattle.gone.proofs.Grows.{renamed_append, ids_grow}
-use borrow.Author.Rules.{rules}
 use native.Mathlib.Omega.{arith}
 use Rattle.moved.proofs.put_moved_edge.Goals as goal
 use Rattle.moved.proofs.put_moved_edge.Goals.{then-i-e, else-i-e, After-body_row-body, After-put_moved-arg-1, After-put_two-arg-1, After-slice_known-2-1, After-struct_known-1, Joined-i-e}

@@ -1,14 +1,14 @@
 -- `moved::put_moved_edges` meets its contract.
 -- Assumes nothing.
 use mathlib.Core.List.{List, map}
-use Prim.Native.Nat.{ℕ, ◌+◌, ◌-◌, ◌≤◌}
-use mathlib.Core.Path.{◌≡◌, refl, sym, ap, ◌∙◌, subst}
-use lib.ListN.{length, take}
+use Prim.Native.Nat.{ℕ, ◌+◌}
+use mathlib.Core.Path.{refl, sym, ap, ◌∙◌, subst}
+use lib.ListN.{length}
 use Rattle.moved.specs.Places.{gone_in}
 use Rattle.form.specs.Form.{body_of, edge_in}
 use Rattle.form.specs.Stored.{graph_of}
 use Rattle.graph.specs.Delete.{renamed_edge}
-use Rattle.graph.specs.Form.{edge_row, edge_start}
+use Rattle.graph.specs.Form.{edge_row}
 use Rattle.graph.specs.Graph.{Edge}
 use Rattle.graph.specs.Lists.{joined}
 use Rattle.le.specs.Rows.{Holds}
@@ -18,9 +18,8 @@ use Rattle.form.proofs.Stored.{stored_rows}
 use Rattle.write.proofs.Results.{put_none}
 use Rattle.write.proofs.Edges.{Met, met, edge_held, all_edges, all_fits, edge_less}
 use Rattle.moved.proofs.Edges.{same_row}
-use Rattle.write.proofs.Grows.{put_length, put_fits, put_more}
+use Rattle.write.proofs.Grows.{put_fits, put_more}
 use Rattle.gone.proofs.Grows.{moved_grow}
-use borrow.Author.Rules.{rules}
 use native.Mathlib.Omega.{arith}
 use Rattle.moved.proofs.put_moved_edges.Goals as goal
 use Rattle.moved.proofs.put_moved_edges.Goals.{After-put_moved_edge-arg-1, After-slice_known-in-loop-i-1}

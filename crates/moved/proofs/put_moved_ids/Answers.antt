@@ -1,7 +1,7 @@
 -- `moved::put_moved_ids` meets its contract.
 -- Assumes nothing.
-use mathlib.Core.List.{◌∷◌, []}
-use Prim.Native.Nat.{ℕ, ◌+◌, ◌-◌, ◌≤◌}
+use mathlib.Core.List.{◌∷◌}
+use Prim.Native.Nat.{ℕ, ◌+◌}
 use native.Mathlib.Nat.{le_antisymm}
 use mathlib.Core.Path.{◌≡◌, sym, ap, ◌∙◌, subst}
 use lib.ListN.{length}
@@ -13,9 +13,8 @@ use Rattle.le.specs.declared.Row.{Row}
 use Rattle.write.specs.Write.{Put}
 use Rattle.le.proofs.Rows.{holds_less, holds_index}
 use Rattle.write.proofs.Results.{put_none}
-use Rattle.write.proofs.Grows.{entry_below, put_length, put_fits, put_more}
+use Rattle.write.proofs.Grows.{entry_below, put_fits, put_more}
 use Rattle.gone.proofs.Grows.{ids_grow}
-use borrow.Author.Rules.{rules}
 use native.Mathlib.Omega.{arith}
 use Rattle.moved.proofs.put_moved_ids.Goals as goal
 use Rattle.moved.proofs.put_moved_ids.Goals.{After-put_moved-arg-1, After-slice_known-in-loop-i-1}

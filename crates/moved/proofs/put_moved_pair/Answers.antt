@@ -1,7 +1,7 @@
 -- `moved::put_moved_pair` meets its contract.
 -- Assumes nothing.
 use mathlib.Core.Bool.{Bool, false, cond}
-use mathlib.Core.List.{◌∷◌, []}
+use mathlib.Core.List.{◌∷◌}
 use mathlib.Core.Path.{◌≡◌, refl, sym, ap, ◌∙◌, subst}
 use Prim.Native.Nat.{ℕ, ◌+◌, ◌<◌}
 use Rattle.moved.specs.Places.{map_of, gone_in}
@@ -16,7 +16,6 @@ use Rattle.write.proofs.Results.{put_none}
 use Rattle.write.proofs.Grows.{span_two}
 use Rattle.gone.proofs.Grows.{pair_moved}
 use Rattle.moved.proofs.Places.{placed, unplaced}
-use borrow.Author.Rules.{rules}
 use native.Mathlib.Omega.{arith}
 use Rattle.moved.proofs.put_moved_pair.Goals as goal
 use Rattle.moved.proofs.put_moved_pair.Goals.{After-number, After-number-2, After-put_two-arg-1, After-slice_known-2-1, Then-a-none, Then-b-none}

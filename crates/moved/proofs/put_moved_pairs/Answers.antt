@@ -1,6 +1,6 @@
 -- `moved::put_moved_pairs` meets its contract.
 -- Assumes nothing.
-use Prim.Native.Nat.{ℕ, ◌*◌, ◌-◌, ◌≤◌}
+use Prim.Native.Nat.{ℕ, ◌*◌}
 use native.Mathlib.Nat.{le_antisymm}
 use mathlib.Core.Path.{subst}
 use Rattle.moved.specs.Places.{gone_in}
@@ -11,9 +11,8 @@ use Rattle.le.specs.Rows.{span}
 use Rattle.write.specs.Write.{Put}
 use Rattle.le.proofs.Rows.{holds_less, holds_index}
 use Rattle.write.proofs.Results.{put_none}
-use Rattle.write.proofs.Grows.{part_below, put_length, put_fits, put_more}
+use Rattle.write.proofs.Grows.{part_below, put_fits, put_more}
 use Rattle.gone.proofs.Grows.{flat_grow}
-use borrow.Author.Rules.{rules}
 use native.Mathlib.Omega.{arith}
 use Rattle.moved.proofs.put_moved_pairs.Goals as goal
 

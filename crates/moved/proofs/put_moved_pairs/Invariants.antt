@@ -1,20 +1,12 @@
 -- What the loops of `moved::put_moved_pairs` keep.
 -- Assumes nothing.
-use Prim.Native.Nat.{ℕ, ◌*◌, ◌-◌, ◌≤◌}
-use native.Mathlib.Nat.{le_antisymm}
-use mathlib.Core.Path.{subst}
+use Prim.Native.Nat.{◌*◌, ◌-◌, ◌≤◌}
 use Rattle.moved.specs.Places.{gone_in}
 use Rattle.form.specs.Form.{body_of}
 use Rattle.graph.specs.Delete.{renamed_pairs}
 use Rattle.graph.specs.Lists.{paired, flat}
 use Rattle.le.specs.Rows.{span}
 use Rattle.write.specs.Write.{Put}
-use Rattle.le.proofs.Rows.{holds_less, holds_index}
-use Rattle.write.proofs.Results.{put_none}
-use Rattle.write.proofs.Grows.{part_below, put_length, put_fits, put_more}
-use Rattle.gone.proofs.Grows.{flat_grow}
-use borrow.Author.Rules.{rules}
-use native.Mathlib.Omega.{arith}
 use Rattle.moved.proofs.put_moved_pairs.Given as goal
 
 abbrev pub invariant-loop-i : goal.invariant-loop-i

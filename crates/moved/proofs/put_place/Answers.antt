@@ -1,13 +1,12 @@
 -- `moved::put_place` meets its contract.
 -- Assumes nothing.
 use mathlib.Core.Bool.{Bool, cond}
-use mathlib.Core.List.{◌∷◌, []}
+use mathlib.Core.List.{◌∷◌}
 use mathlib.Core.Path.{sym, ap, ◌∙◌}
 use Prim.Native.Nat.{ℕ, ◌-◌, ◌^◌}
 use Rattle.le.specs.Rows.{puts}
 use Rattle.le.proofs.Rows.{wide_low}
 use Rattle.gone.proofs.Marks.{stays, goes}
-use borrow.Author.Rules.{rules}
 use native.Mathlib.Omega.{arith}
 use Rattle.moved.proofs.put_place.Goals as goal
 

@@ -2,7 +2,6 @@
 -- Assumes nothing.
 use native.Mathlib.Omega.{arith}
 use lib.ListN.{length}
-use borrow.Author.Rules.{rules}
 use Rattle.le.proofs.Numbers.{below_each}
 use Rattle.ohg.proofs.Built.{build_ranged, packs_ending, returns_built_of}
 use Rattle.ohg.proofs.ohg_build.Goals as goal

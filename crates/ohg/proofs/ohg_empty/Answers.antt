@@ -1,7 +1,6 @@
 -- `ohg::ohg_empty` meets its contract.
 -- Assumes nothing.
 use lib.ListN.{length}
-use borrow.Author.Rules.{rules}
 use Rattle.packing.proofs.Packing.{packs, returns_of}
 use Rattle.ohg.proofs.Ranges.{empty_ranged}
 use Rattle.ohg.proofs.ohg_empty.Goals as goal

@@ -2,7 +2,6 @@
 -- Assumes nothing.
 use native.Mathlib.Omega.{arith}
 use lib.ListN.{length}
-use borrow.Author.Rules.{rules}
 use Rattle.le.proofs.Numbers.{below_each}
 use Rattle.choice.specs.Calls.{no_loop_call}
 use Rattle.packing.proofs.Packing.{packs, returned}

@@ -1,7 +1,6 @@
 -- `ohg::ohg_once_fed` meets its contract.
 -- Assumes nothing.
 use lib.ListN.{length}
-use borrow.Author.Rules.{rules}
 use Rattle.graph.specs.Calls.{once_fed_call}
 use Rattle.packing.proofs.Packing.{packs, returned}
 use Rattle.ohg.proofs.Ranges.{once_fed_ranged}

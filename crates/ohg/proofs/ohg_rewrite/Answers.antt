@@ -2,7 +2,6 @@
 -- Assumes nothing.
 use native.Mathlib.Omega.{arith}
 use lib.ListN.{length}
-use borrow.Author.Rules.{rules}
 use Rattle.le.proofs.Numbers.{below_each}
 use Rattle.packing.proofs.Packing.{packs, returns_of}
 use Rattle.ohg.proofs.Ranges.{rewrite_ranged}

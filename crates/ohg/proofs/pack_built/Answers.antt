@@ -2,7 +2,6 @@
 -- Assumes nothing.
 use mathlib.Core.Path.{ap, subst}
 use native.Mathlib.Omega.{arith}
-use borrow.Author.Rules.{rules}
 use Rattle.ohg.specs.Built.{packed_ending, PacksEnding}
 use Rattle.ohg.proofs.pack_built.Goals as goal
 

@@ -1,9 +1,6 @@
 -- `once_fed::all_marked` meets its contract.
 -- Assumes nothing.
-use mathlib.Core.Path.{◌≡◌}
-use Prim.Native.Nat.{ℕ, ◌≤◌, ◌<◌, ◌-◌}
 use native.Mathlib.Omega.{arith}
-use lib.ListN.{get_or}
 use borrow.Author.Count.{below_more}
 use Rattle.once_fed.proofs.all_marked.Goals as goal
 

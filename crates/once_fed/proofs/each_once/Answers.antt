@@ -1,7 +1,6 @@
 -- `once_fed::each_once` meets its contract.
 -- Assumes nothing.
 use mathlib.Core.Path.{sym}
-use borrow.Author.Rules.{rules}
 use borrow.Author.Tests.{not-true, not-false}
 use Rattle.once_fed.specs.Marked.{Fared}
 use Rattle.form.specs.Stored.{graph_of}

@@ -1,15 +1,13 @@
 -- `once_fed::mark_edges` meets its contract.
 -- Assumes nothing.
-use mathlib.Core.Path.{◌≡◌, refl, sym, ◌∙◌, subst}
-use Prim.Native.Nat.{◌+◌, ◌≤◌, ◌-◌}
-use borrow.Author.Rules.{rules}
+use mathlib.Core.Path.{refl, sym, ◌∙◌, subst}
+use Prim.Native.Nat.{◌+◌}
 use native.Mathlib.Omega.{arith}
-use lib.ListN.{length}
 use borrow.Author.Tests.{not-true, not-false}
 use Rattle.le.specs.Rows.{Holds}
 use Rattle.le.specs.declared.Row.{Row}
 use Rattle.form.proofs.Stored.{stored_rows}
-use Rattle.once_fed.proofs.Edges.{Sofar, Fit, begun, there, fit, ended}
+use Rattle.once_fed.proofs.Edges.{Fit, begun, there, fit, ended}
 use Rattle.once_fed.proofs.Marked.{marked_cleared}
 use Rattle.once_fed.proofs.mark_edges.Goals as goal
 use Rattle.once_fed.proofs.mark_edges.Goals.{After-mark_edge-arg-1, Else-not-mark_edge, Then-not-mark_edge}

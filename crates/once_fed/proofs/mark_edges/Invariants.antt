@@ -1,16 +1,9 @@
 -- What the loops of `once_fed::mark_edges` keep.
 -- Assumes nothing.
-use mathlib.Core.Path.{◌≡◌, refl, sym, ◌∙◌, subst}
-use Prim.Native.Nat.{◌+◌, ◌≤◌, ◌-◌}
-use borrow.Author.Rules.{rules}
-use native.Mathlib.Omega.{arith}
+use mathlib.Core.Path.{◌≡◌}
+use Prim.Native.Nat.{◌≤◌, ◌-◌}
 use lib.ListN.{length}
-use borrow.Author.Tests.{not-true, not-false}
-use Rattle.le.specs.Rows.{Holds}
-use Rattle.le.specs.declared.Row.{Row}
-use Rattle.form.proofs.Stored.{stored_rows}
-use Rattle.once_fed.proofs.Edges.{Sofar, Fit, begun, there, fit, ended}
-use Rattle.once_fed.proofs.Marked.{marked_cleared}
+use Rattle.once_fed.proofs.Edges.{Sofar}
 use Rattle.once_fed.proofs.mark_edges.Given as goal
 
 abbrev pub invariant-loop-i : goal.invariant-loop-i

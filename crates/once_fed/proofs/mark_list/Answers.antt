@@ -1,14 +1,10 @@
 -- `once_fed::mark_list` meets its contract.
 -- Assumes nothing.
-use mathlib.Core.Bool.{true}
-use mathlib.Core.Path.{◌≡◌, refl, ◌∙◌}
-use Prim.Native.Nat.{◌≤◌, ◌<◌, ◌-◌}
+use mathlib.Core.Path.{refl, ◌∙◌}
+use Prim.Native.Nat.{◌<◌}
 use native.Mathlib.Nat.{le_antisymm}
-use borrow.Author.Rules.{rules}
 use native.Mathlib.Omega.{arith}
-use lib.ListN.{length}
 use borrow.Author.Tests.{not-true, not-false}
-use Rattle.once_fed.specs.Marked.{Marks}
 use Rattle.le.specs.Rows.{span}
 use Rattle.le.proofs.Numbers.{below_at}
 use Rattle.le.proofs.Rows.{holds_less, holds_index, length_span, span_at}

@@ -3,7 +3,6 @@
 use mathlib.Core.Logic.{inl, inr}
 use mathlib.Core.Path.{refl}
 use native.Mathlib.Omega.{arith}
-use borrow.Author.Rules.{rules}
 use borrow.Author.Tests.{not-true, not-false}
 use Rattle.once_fed.specs.Marked.{Marks}
 use Rattle.form.specs.Stored.{graph_of}

@@ -4,7 +4,6 @@ use mathlib.Core.Bool.{Bool, cond}
 use mathlib.Core.Path.{◌≡◌, sym, ap, ◌∙◌}
 use native.Mathlib.Omega.{arith}
 use lib.ListN.{length}
-use borrow.Author.Rules.{rules}
 use Rattle.form.specs.Form.{outcome}
 use Rattle.form.specs.Stored.{Stored}
 use Rattle.form.specs.declared.Outcome.TheVariants.{Done}

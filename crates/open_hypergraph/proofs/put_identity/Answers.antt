@@ -1,7 +1,6 @@
 -- `open_hypergraph::put_identity` meets its contract.
 -- Assumes nothing.
 use native.Mathlib.Omega.{arith}
-use borrow.Author.Rules.{rules}
 use Rattle.le.specs.Rows.{row_at, span}
 use Rattle.le.proofs.Rows.{length_span}
 use Rattle.pieces.proofs.Held.{held}

@@ -4,7 +4,6 @@ use mathlib.Core.Logic.{inr}
 use mathlib.Core.Path.{refl, ◌∙◌}
 use native.Mathlib.Omega.{arith}
 use lib.ListN.{length}
-use borrow.Author.Rules.{rules}
 use Rattle.graph.specs.Build.{singleton}
 use Rattle.graph.specs.Calls.{label_list, singleton_step, singleton_call}
 use Rattle.form.proofs.Answers.{list_refused, passed_on}

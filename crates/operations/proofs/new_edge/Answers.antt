@@ -4,7 +4,6 @@ use mathlib.Core.Path.{ap, ◌∙◌}
 use Prim.Native.Nat.{◌+◌, ◌<◌, ◌^◌}
 use native.Mathlib.Omega.{arith}
 use lib.ListN.{length}
-use borrow.Author.Rules.{rules}
 use Rattle.graph.specs.Build.{new_edge}
 use Rattle.graph.specs.Calls.{new_edge_call, new_edge_step, id_list}
 use Rattle.le.proofs.Rows.{holds_index}

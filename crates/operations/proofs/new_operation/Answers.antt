@@ -5,7 +5,6 @@ use mathlib.Core.Logic.{inr}
 use Prim.Native.Nat.{◌+◌, ◌<◌, ◌^◌}
 use native.Mathlib.Omega.{arith}
 use lib.ListN.{length}
-use borrow.Author.Rules.{rules}
 use Rattle.graph.specs.Build.{new_operation}
 use Rattle.graph.specs.Calls.{new_operation_call, new_operation_step, label_list}
 use Rattle.le.proofs.Rows.{holds_index}

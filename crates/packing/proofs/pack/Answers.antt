@@ -2,7 +2,6 @@
 -- Assumes nothing.
 use mathlib.Core.Path.{ap, subst}
 use native.Mathlib.Omega.{arith}
-use borrow.Author.Rules.{rules}
 use Rattle.form.specs.declared.Outcome.TheVariants.{Done}
 use Rattle.packing.specs.Packed.{packed_outcome, Packs}
 use Rattle.packing.proofs.pack.Goals as goal

@@ -1,10 +1,9 @@
 -- `parts::check_parts` meets its contract.
 -- Assumes nothing.
 use mathlib.Core.Path.{◌≡◌, refl, sym, ap, ◌∙◌}
-use Prim.Native.Nat.{◌+◌, ◌-◌, ◌≤◌}
+use Prim.Native.Nat.{◌+◌}
 use native.Mathlib.Omega.{arith}
 use lib.ListN.{get_or}
-use borrow.Author.Rules.{rules}
 use Rattle.graph.specs.Form.{no_edge}
 use Rattle.le.specs.Rows.{entry}
 use Rattle.le.specs.declared.Row.{Row}
@@ -16,7 +15,7 @@ use Rattle.form.specs.declared.Sizes.{Sizes}
 use Rattle.form.proofs.Answers.{test_refused, test_answered, passed_on}
 use Rattle.form.proofs.Stored.{stored_rows, edge_there}
 use Rattle.catalogue.specs.Price.{part_check}
-use Rattle.parts.proofs.Walking.{Sofar, label_held, label_is, edge_inside, begun, turned, stopped, ended}
+use Rattle.parts.proofs.Walking.{label_held, label_is, edge_inside, begun, turned, stopped, ended}
 use Rattle.parts.proofs.check_parts.Goals as goal
 use Rattle.parts.proofs.check_parts.Goals.{After-number-label, After-refusal, In-Number}
 

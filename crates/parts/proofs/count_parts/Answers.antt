@@ -1,10 +1,9 @@
 -- `parts::count_parts` meets its contract.
 -- Assumes nothing.
 use mathlib.Core.Path.{◌≡◌, refl, ap, ◌∙◌}
-use Prim.Native.Nat.{◌+◌, ◌-◌, ◌≤◌}
+use Prim.Native.Nat.{◌+◌}
 use native.Mathlib.Omega.{arith}
-use lib.ListN.{get_or, take}
-use borrow.Author.Rules.{rules}
+use lib.ListN.{get_or}
 use Rattle.graph.specs.Form.{no_edge}
 use Rattle.le.specs.Rows.{entry}
 use Rattle.le.specs.declared.Row.{Row}
@@ -12,7 +11,6 @@ use Rattle.le.proofs.Rows.{at_row}
 use Rattle.form.specs.Stored.{graph_of}
 use Rattle.form.specs.declared.Sizes.{Sizes}
 use Rattle.form.proofs.Stored.{stored_rows}
-use Rattle.parts.specs.Parts.{parts_of}
 use Rattle.parts.proofs.Walking.{label_held, label_is, edge_inside, parts_none, addable, counted, all_counted}
 use Rattle.parts.proofs.count_parts.Goals as goal
 use Rattle.parts.proofs.count_parts.Goals.{After-add_part-parts, After-number-label}

@@ -2,7 +2,6 @@
 -- Assumes nothing.
 use Prim.Native.Nat.{◌-◌}
 use lib.ListN.{get_or-map}
-use borrow.Author.Rules.{rules}
 use Rattle.parts.specs.Parts.{row_of}
 use Rattle.catalogue.specs.Price.{kind, catalogue, kind_of}
 use Rattle.parts.proofs.kind_row.Goals as goal

@@ -3,7 +3,6 @@
 use mathlib.Core.Path.{◌≡◌, sym, subst}
 use native.Mathlib.Omega.{arith}
 use lib.ListN.{length}
-use borrow.Author.Rules.{rules}
 use Rattle.graph.specs.Answer.{answered}
 use Rattle.graph.specs.Calls.{in_work_room}
 use Rattle.le.proofs.Numbers.{below_each}

@@ -3,7 +3,6 @@
 use mathlib.Core.Path.{◌≡◌, sym, ap, ◌∙◌}
 use native.Mathlib.Omega.{arith}
 use lib.ListN.{length}
-use borrow.Author.Rules.{rules}
 use Rattle.graph.specs.Answer.{Answer, answered, ◌>>◌}
 use Rattle.graph.specs.Calls.{in_work_room}
 use Rattle.graph.specs.Graph.{Graph}

@@ -3,7 +3,6 @@
 use mathlib.Core.Path.{refl, ap, ◌∙◌}
 use Prim.Native.Nat.{◌%◌, ◌/◌}
 use lib.Seq.{sets}
-use borrow.Author.Rules.{rules}
 use Rattle.le.specs.Le.{bytes}
 use Rattle.parts.proofs.Putting.{bytes_8, put_twice}
 use Rattle.parts.proofs.put8.Goals as goal

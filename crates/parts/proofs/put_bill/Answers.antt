@@ -1,7 +1,6 @@
 -- `parts::put_bill` meets its contract.
 -- Assumes nothing.
 use native.Mathlib.Omega.{arith}
-use borrow.Author.Rules.{rules}
 use Rattle.parts.proofs.Putting.{all_put}
 use Rattle.parts.proofs.put_bill.Goals as goal
 

@@ -1,12 +1,9 @@
 -- `parts::put_row` meets its contract.
 -- Assumes nothing.
 use mathlib.Core.Logic.{inr}
-use mathlib.Core.Path.{◌≡◌, refl, sym, ◌∙◌}
-use Prim.Native.Nat.{◌-◌, ◌≤◌, ◌<◌}
+use mathlib.Core.Path.{refl, sym, ◌∙◌}
 use native.Mathlib.Omega.{arith}
-use lib.ListN.{length, take}
-use borrow.Author.Rules.{rules}
-use Rattle.le.specs.Rows.{row_at, puts}
+use Rattle.le.specs.Rows.{row_at}
 use Rattle.le.proofs.Rows.{puts_none}
 use Rattle.parts.proofs.Putting.{row_next, row_put}
 use Rattle.parts.proofs.put_row.Goals as goal

@@ -1,14 +1,9 @@
 -- What the loops of `parts::put_row` keep.
 -- Assumes nothing.
-use mathlib.Core.Logic.{inr}
-use mathlib.Core.Path.{◌≡◌, refl, sym, ◌∙◌}
-use Prim.Native.Nat.{◌-◌, ◌≤◌, ◌<◌}
-use native.Mathlib.Omega.{arith}
+use mathlib.Core.Path.{◌≡◌}
+use Prim.Native.Nat.{◌-◌, ◌≤◌}
 use lib.ListN.{length, take}
-use borrow.Author.Rules.{rules}
 use Rattle.le.specs.Rows.{row_at, puts}
-use Rattle.le.proofs.Rows.{puts_none}
-use Rattle.parts.proofs.Putting.{row_next, row_put}
 use Rattle.parts.proofs.put_row.Given as goal
 
 abbrev pub invariant-loop-k : goal.invariant-loop-k

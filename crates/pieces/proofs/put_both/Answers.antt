@@ -1,6 +1,5 @@
 -- `pieces::put_both` meets its contract.
 -- Assumes nothing.
-use mathlib.Core.Path.{◌∙◌}
 use native.Mathlib.Omega.{arith}
 use Rattle.le.proofs.Rows.{holds_less, holds_same, holds_index, length_span, puts_append}
 use Rattle.pieces.specs.Lent.{lent}

@@ -1,9 +1,7 @@
 -- `pieces::put_head` meets its contract.
 -- Assumes nothing.
-use mathlib.Core.List.{[]}
 use mathlib.Core.Path.{refl, sym, ◌∙◌}
 use native.Mathlib.Omega.{arith}
-use borrow.Author.Rules.{rules}
 use Rattle.le.specs.Rows.{span}
 use Rattle.le.proofs.Rows.{holds_less}
 use Rattle.write.proofs.Results.{drawn_start}

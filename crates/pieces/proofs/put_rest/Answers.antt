@@ -2,7 +2,6 @@
 -- Assumes nothing.
 use mathlib.Core.Path.{refl}
 use native.Mathlib.Omega.{arith}
-use borrow.Author.Rules.{rules}
 use Rattle.le.proofs.Rows.{length_span, holds_index}
 use Rattle.pieces.proofs.Held.{held}
 use Rattle.pieces.proofs.put_rest.Goals as goal

@@ -3,7 +3,6 @@
 use mathlib.Core.Path.{◌≡◌, ◌∙◌}
 use native.Mathlib.Omega.{arith}
 use lib.ListN.{length}
-use borrow.Author.Rules.{rules}
 use Rattle.form.specs.Stored.{Stored, graph_of}
 use Rattle.form.proofs.Answers.{number_refused, number_answered, passed_on, passed_read}
 use Rattle.form.proofs.Stored.{unread, stored_rows, stored_bytes}

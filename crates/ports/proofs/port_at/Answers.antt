@@ -1,6 +1,5 @@
 -- `ports::port_at` meets its contract.
 -- Assumes nothing.
-use borrow.Author.Rules.{rules}
 use Rattle.ports.proofs.port_at.Goals as goal
 
 pub returns-then-target : goal.returns-then-target

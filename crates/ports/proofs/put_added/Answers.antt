@@ -2,7 +2,6 @@
 -- Assumes nothing.
 use mathlib.Core.Path.{◌≡◌}
 use native.Mathlib.Omega.{arith}
-use borrow.Author.Rules.{rules}
 use Rattle.form.specs.Form.{body_of, edge_in}
 use Rattle.form.proofs.Stored.{stored_rows, edge_there}
 use Rattle.write.proofs.Results.{room_same}

@@ -2,7 +2,6 @@
 -- Assumes nothing.
 use mathlib.Core.Path.{refl}
 use native.Mathlib.Omega.{arith}
-use borrow.Author.Rules.{rules}
 use Rattle.form.specs.Form.{body_of, body_size}
 use Rattle.form.specs.Stored.{graph_of}
 use Rattle.graph.specs.Form.{body}

@@ -1,7 +1,6 @@
 -- `price::ohg_price` meets its contract.
 -- Assumes nothing.
 use lib.ListN.{length}
-use borrow.Author.Rules.{rules}
 use Rattle.packing.proofs.Packing.{packs, returns_of}
 use Rattle.catalogue.proofs.Ranges.{price_ranged}
 use Rattle.price.proofs.ohg_price.Goals as goal

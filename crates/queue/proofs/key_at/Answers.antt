@@ -2,7 +2,6 @@
 -- Assumes nothing.
 use native.Mathlib.Omega.{arith}
 use Rattle.queue.specs.Places.{key_at}
-use borrow.Author.Rules.{rules}
 use Rattle.queue.proofs.key_at.Goals as goal
 
 pub returns : goal.returns

@@ -4,7 +4,6 @@ use mathlib.Core.Path.{◌∙◌}
 use native.Mathlib.Omega.{arith}
 use Rattle.le.specs.Le.{words}
 use Rattle.queue.proofs.Stored.{larger_alone, larger_beside, larger_key}
-use borrow.Author.Rules.{rules}
 use Rattle.queue.proofs.larger_below.Goals as goal
 
 pub returns-then-n-right : goal.returns-then-n-right

@@ -9,7 +9,6 @@ use Rattle.le.specs.Le.{words}
 use Rattle.le.proofs.Places.{length_words}
 use Rattle.queue.specs.Places.{Added}
 use Rattle.queue.proofs.Stored.{rises_put}
-use borrow.Author.Rules.{rules}
 use Rattle.queue.proofs.push.Goals as goal
 
 pub returns : goal.returns

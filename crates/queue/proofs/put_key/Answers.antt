@@ -5,7 +5,6 @@ use mathlib.Core.Path.{ap, ◌∙◌}
 use Prim.Native.Nat.{ℕ, ◌+◌, ◌*◌, ◌/◌}
 use lib.ListN.{set}
 use Rattle.queue.specs.Places.{placed}
-use borrow.Author.Rules.{rules}
 use Rattle.queue.proofs.put_key.Goals as goal
 
 pub returns : goal.returns

@@ -1,14 +1,9 @@
 -- What the loops of `queue::sift_up` keep.
 -- Assumes nothing.
-use mathlib.Core.List.{List}
-use mathlib.Core.Path.{◌≡◌, refl, sym, ap, ◌∙◌, subst}
-use Prim.Native.Nat.{ℕ, ◌+◌, ◌-◌, ◌*◌, ◌/◌, ◌≤◌}
-use native.Mathlib.Omega.{arith}
+use mathlib.Core.Path.{◌≡◌}
 use lib.ListN.{length}
 use Rattle.le.specs.Le.{words}
-use Rattle.le.proofs.Places.{length_words}
-use Rattle.queue.specs.Places.{key_at, placed}
-use Rattle.queue.proofs.Stored.{RisingIn, rising_start, rising_turn, rising_stop}
+use Rattle.queue.proofs.Stored.{RisingIn}
 use Rattle.queue.proofs.sift_up.Given as goal
 
 abbrev pub invariant-loop-gap : goal.invariant-loop-gap

@@ -9,7 +9,6 @@ use Rattle.le.specs.Le.{words}
 use Rattle.le.proofs.Places.{length_words}
 use Rattle.queue.specs.Places.{Replaced}
 use Rattle.queue.proofs.Stored.{sinks_put, keys_length}
-use borrow.Author.Rules.{rules}
 use Rattle.queue.proofs.sink.Goals as goal
 
 pub put_key-requires : goal.put_key-requires

@@ -1,13 +1,12 @@
 -- `quotient::put_class_label` meets its contract.
 -- Assumes nothing.
-use mathlib.Core.List.{◌∷◌, []}
+use mathlib.Core.List.{◌∷◌}
 use mathlib.Core.Path.{refl, sym, ap, ◌∙◌}
 use Prim.Native.Nat.{ℕ, ◌+◌}
 use borrow.Author.Tests.{eq-eqb, ne_eqb}
 use Rattle.le.specs.Rows.{Holds, puts}
 use Rattle.le.proofs.Rows.{holds_index}
 use Rattle.write.proofs.Results.{put_none}
-use borrow.Author.Rules.{rules}
 use native.Mathlib.Omega.{arith}
 use Rattle.quotient.proofs.put_class_label.Goals as goal
 use Rattle.quotient.proofs.put_class_label.Goals.{After-number, After-slice_known-2-1}

@@ -1,6 +1,6 @@
 -- `quotient::put_class_labels` meets its contract.
 -- Assumes nothing.
-use Prim.Native.Nat.{◌-◌, ◌≤◌, ◌<◌}
+use Prim.Native.Nat.{◌<◌}
 use native.Mathlib.Nat.{le_antisymm}
 use Rattle.graph.specs.Delete.{remaining}
 use Rattle.graph.specs.Merge.{classes, absorbed}
@@ -10,9 +10,7 @@ use Rattle.write.specs.Write.{Put}
 use Rattle.le.proofs.Rows.{holds_less, at_row}
 use Rattle.form.proofs.Stored.{stored_rows}
 use Rattle.write.proofs.Results.{put_none}
-use Rattle.write.proofs.Grows.{put_length}
 use Rattle.quotient.proofs.Labels.{label_room, label_next, class_labels, labels_fit}
-use borrow.Author.Rules.{rules}
 use native.Mathlib.Omega.{arith}
 use Rattle.quotient.proofs.put_class_labels.Goals as goal
 

@@ -14,7 +14,6 @@ use Rattle.write.proofs.Results.{put_then, length_headed}
 use Rattle.write.proofs.Grows.{put_length}
 use Rattle.write.proofs.Parts.{copied, drawn_by}
 use Rattle.quotient.proofs.Parts.{labels_size, body_size_lem, edge_labels_kept, lists_below, body_put}
-use borrow.Author.Rules.{rules}
 use native.Mathlib.Omega.{arith}
 use Rattle.quotient.proofs.put_merged.Goals as goal
 use Rattle.quotient.proofs.put_merged.Goals.{After-copy_numbers-arg-1, After-put_renamed_edges-arg-1, After-put_renamed_ids-arg-1, After-slice_known-6-1}

@@ -1,9 +1,9 @@
 -- `quotient::put_renamed_edges` meets its contract.
 -- Assumes nothing.
 use mathlib.Core.List.{List, map}
-use mathlib.Core.Path.{◌≡◌, refl, ap, ◌∙◌, subst}
-use Prim.Native.Nat.{◌+◌, ◌*◌, ◌-◌, ◌≤◌}
-use lib.ListN.{length, take}
+use mathlib.Core.Path.{refl, ap, ◌∙◌, subst}
+use Prim.Native.Nat.{◌+◌, ◌*◌, ◌≤◌}
+use lib.ListN.{length}
 use Rattle.form.specs.Form.{body_of, edge_in}
 use Rattle.form.specs.Stored.{graph_of}
 use Rattle.graph.specs.Form.{edge_row, edge_start}
@@ -19,7 +19,6 @@ use Rattle.write.proofs.Results.{put_none}
 use Rattle.write.proofs.Edges.{Met, met, edge_held, all_edges, edge_less, edges_end, edge_inside}
 use Rattle.write.proofs.Grows.{put_length, put_more}
 use Rattle.quotient.proofs.Renamed.{edges_grow, edge_put}
-use borrow.Author.Rules.{rules}
 use native.Mathlib.Omega.{arith}
 use Rattle.quotient.proofs.put_renamed_edges.Goals as goal
 use Rattle.quotient.proofs.put_renamed_edges.Goals.{After-put_renamed_ids-arg-1, After-put_two-arg-1, After-slice_known-in-loop-i-2-1, After-struct_known-1}

@@ -1,8 +1,8 @@
 -- `quotient::put_renamed_ids` meets its contract.
 -- Assumes nothing.
-use mathlib.Core.List.{◌∷◌, []}
+use mathlib.Core.List.{◌∷◌}
 use mathlib.Core.Path.{◌≡◌, refl, ap, ◌∙◌, subst}
-use Prim.Native.Nat.{ℕ, ◌+◌, ◌-◌, ◌≤◌, ◌<◌}
+use Prim.Native.Nat.{ℕ, ◌+◌, ◌<◌}
 use native.Mathlib.Nat.{le_antisymm}
 use lib.ListN.{get_or}
 use Rattle.form.specs.Form.{body_of}
@@ -15,7 +15,6 @@ use Rattle.write.specs.Write.{Put}
 use Rattle.write.proofs.Results.{put_none}
 use Rattle.write.proofs.Grows.{entry_below, put_length, put_more}
 use Rattle.quotient.proofs.Renamed.{looked_grow}
-use borrow.Author.Rules.{rules}
 use native.Mathlib.Omega.{arith}
 use Rattle.quotient.proofs.put_renamed_ids.Goals as goal
 use Rattle.quotient.proofs.put_renamed_ids.Goals.{After-number-id}

@@ -1,22 +1,10 @@
 -- What the loops of `quotient::put_renamed_ids` keep.
 -- Assumes nothing.
-use mathlib.Core.List.{◌∷◌, []}
-use mathlib.Core.Path.{◌≡◌, refl, ap, ◌∙◌, subst}
-use Prim.Native.Nat.{ℕ, ◌+◌, ◌-◌, ◌≤◌, ◌<◌}
-use native.Mathlib.Nat.{le_antisymm}
-use lib.ListN.{get_or}
-use Rattle.form.specs.Form.{body_of}
+use Prim.Native.Nat.{◌+◌, ◌-◌, ◌≤◌}
 use Rattle.graph.specs.Merge.{looked}
 use Rattle.le.specs.Le.{words}
-use Rattle.le.specs.Rows.{entry, span, puts}
-use Rattle.le.specs.declared.Row.{Row}
-use Rattle.le.proofs.Rows.{holds_less, holds_same, holds_index, at_row}
+use Rattle.le.specs.Rows.{span}
 use Rattle.write.specs.Write.{Put}
-use Rattle.write.proofs.Results.{put_none}
-use Rattle.write.proofs.Grows.{entry_below, put_length, put_more}
-use Rattle.quotient.proofs.Renamed.{looked_grow}
-use borrow.Author.Rules.{rules}
-use native.Mathlib.Omega.{arith}
 use Rattle.quotient.proofs.put_renamed_ids.Given as goal
 
 abbrev pub invariant-loop-i : goal.invariant-loop-i

@@ -26,7 +26,6 @@ use Rattle.write.proofs.Results.{Fits, result_refused, result_fits, fits_room, d
 use Rattle.quotient.specs.Merging.{Mapped}
 use Rattle.quotient.proofs.Calls.{nodes_roomy, told_refused, told_answered, merged_unread, merged_differ, merged_refused, merged_no_map, merged_done, map_put}
 use Rattle.quotient.proofs.Parts.{sizes_are}
-use borrow.Author.Rules.{rules}
 use native.Mathlib.Omega.{arith}
 use Rattle.quotient.proofs.quotient.Goals as goal
 use Rattle.quotient.proofs.quotient.Goals.{After-copy_numbers-arg-1, After-map_classes-arg-1, After-put_merged-arg-1, After-refusal, After-refusal-in_default-fit, After-refusal-in_default-graph, After-refusal-in_default-merging, After-refusal-in_default-size, After-sized-y, After-slice_known-6-1, After-struct_known-1}

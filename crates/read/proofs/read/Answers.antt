@@ -2,7 +2,6 @@
 -- Assumes nothing.
 use mathlib.Core.Path.{◌≡◌, sym, ap, ◌∙◌}
 use Prim.Native.Nat.{ℕ}
-use borrow.Author.Rules.{rules}
 use Rattle.form.specs.Form.{meant, reading, refusal_in}
 use Rattle.form.specs.declared.Format.{Format}
 use Rattle.form.specs.declared.Reading.TheVariants.{Refused}

@@ -2,7 +2,6 @@
 -- Assumes nothing.
 use mathlib.Core.Path.{◌≡◌, sym, ap, ◌∙◌}
 use Prim.Native.Nat.{ℕ}
-use borrow.Author.Rules.{rules}
 use Rattle.graph.specs.Answer.{answered}
 use Rattle.graph.specs.Read.{read_version, read_as}
 use Rattle.graph.proofs.Steps.{stops}

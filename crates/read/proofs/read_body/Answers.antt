@@ -5,7 +5,6 @@ use Prim.Native.Nat.{ℕ, ◌+◌, ◌*◌}
 use native.Mathlib.Omega.{arith}
 use mathlib.Core.List.{List}
 use lib.ListN.{length, drop}
-use borrow.Author.Rules.{rules}
 use Rattle.graph.specs.Form.{header_bytes, edges_place}
 use Rattle.graph.specs.Graph.{Edge}
 use Rattle.graph.specs.Read.{read_edges}

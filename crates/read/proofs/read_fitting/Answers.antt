@@ -2,7 +2,6 @@
 -- Assumes nothing.
 use mathlib.Core.Path.{◌≡◌, sym, ap, ◌∙◌, subst}
 use native.Mathlib.Omega.{arith}
-use borrow.Author.Rules.{rules}
 use Rattle.le.specs.Le.{Below}
 use Rattle.le.proofs.Numbers.{below_each}
 use Rattle.graph.specs.Answer.{answered}

@@ -3,7 +3,6 @@
 use mathlib.Core.Path.{◌≡◌, sym, ap, ◌∙◌, subst}
 use Prim.Native.Nat.{◌≤◌}
 use lib.ListN.{length, drop}
-use borrow.Author.Rules.{rules}
 use Rattle.form.specs.Form.{meant, counts_of}
 use Rattle.form.specs.declared.Format.{Format}
 use Rattle.form.specs.declared.Sizes.{Sizes}

@@ -4,7 +4,6 @@ use mathlib.Core.Path.{◌≡◌, sym, ap, ◌∙◌, subst}
 use Prim.Native.Nat.{ℕ, ◌+◌, ◌*◌}
 use native.Mathlib.Omega.{arith}
 use lib.ListN.{get_or}
-use borrow.Author.Rules.{rules}
 use Rattle.le.specs.Le.{words}
 use Rattle.tables.specs.Tables.{lists_at}
 use Rattle.removal.specs.Room.{halves_in, count_of, Went}

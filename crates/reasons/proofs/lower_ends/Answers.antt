@@ -1,9 +1,8 @@
 -- `reasons::lower_ends` meets its contract.
 -- Assumes nothing.
 use mathlib.Core.Path.{◌≡◌, refl, ◌∙◌, subst}
-use Prim.Native.Nat.{ℕ, ◌-◌, ◌≤◌}
+use Prim.Native.Nat.{ℕ}
 use native.Mathlib.Omega.{arith}
-use lib.ListN.{length}
 use Rattle.le.specs.Le.{words}
 use Rattle.halves.specs.Halves.{lower_all}
 use Rattle.removal.specs.Room.{halves_in, Went}

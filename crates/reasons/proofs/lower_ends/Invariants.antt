@@ -1,14 +1,12 @@
 -- What the loops of `reasons::lower_ends` keep.
 -- Assumes nothing.
-use mathlib.Core.Path.{◌≡◌, refl, ◌∙◌, subst}
-use Prim.Native.Nat.{ℕ, ◌-◌, ◌≤◌}
-use native.Mathlib.Omega.{arith}
+use mathlib.Core.Path.{◌≡◌}
+use Prim.Native.Nat.{◌-◌, ◌≤◌}
 use lib.ListN.{length}
 use Rattle.le.specs.Le.{words}
 use Rattle.halves.specs.Halves.{lower_all}
 use Rattle.removal.specs.Room.{halves_in, Went}
 use Rattle.reasons.specs.Told.{ends_in}
-use Rattle.reasons.proofs.Ends.{ends_start, ends_roomy, ends_turn}
 use Rattle.reasons.proofs.lower_ends.Given as goal
 
 abbrev pub invariant-loop-x : goal.invariant-loop-x

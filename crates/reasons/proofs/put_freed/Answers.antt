@@ -1,15 +1,14 @@
 -- `reasons::put_freed` meets its contract.
 -- Assumes nothing.
 use mathlib.Core.Path.{◌≡◌, refl, sym, ◌∙◌}
-use Prim.Native.Nat.{◌+◌, ◌-◌, ◌≤◌, ◌<◌}
+use Prim.Native.Nat.{◌+◌, ◌<◌}
 use native.Mathlib.Omega.{arith}
-use lib.ListN.{length, take}
+use lib.ListN.{length}
 use Rattle.le.specs.Le.{words}
 use Rattle.le.proofs.Places.{length_words}
 use Rattle.tables.specs.Tables.{waiting_at}
 use Rattle.removal.specs.Room.{part}
 use Rattle.removal.proofs.Tables.{part_length, part_at}
-use Rattle.reasons.specs.Told.{freed_all}
 use Rattle.reasons.proofs.Entries.{freed_none, freed_more, freed_done}
 use Rattle.reasons.proofs.put_freed.Goals as goal
 use Rattle.reasons.proofs.put_freed.Goals.{After-loop-j, After-slice_known-in-loop-j-1}

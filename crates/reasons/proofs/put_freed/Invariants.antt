@@ -1,16 +1,12 @@
 -- What the loops of `reasons::put_freed` keep.
 -- Assumes nothing.
-use mathlib.Core.Path.{◌≡◌, refl, sym, ◌∙◌}
-use Prim.Native.Nat.{◌+◌, ◌-◌, ◌≤◌, ◌<◌}
-use native.Mathlib.Omega.{arith}
+use mathlib.Core.Path.{◌≡◌}
+use Prim.Native.Nat.{◌+◌, ◌-◌, ◌≤◌}
 use lib.ListN.{length, take}
 use Rattle.le.specs.Le.{words}
-use Rattle.le.proofs.Places.{length_words}
 use Rattle.tables.specs.Tables.{waiting_at}
 use Rattle.removal.specs.Room.{part}
-use Rattle.removal.proofs.Tables.{part_length, part_at}
 use Rattle.reasons.specs.Told.{freed_all}
-use Rattle.reasons.proofs.Entries.{freed_none, freed_more, freed_done}
 use Rattle.reasons.proofs.put_freed.Given as goal
 
 abbrev pub invariant-loop-j : goal.invariant-loop-j

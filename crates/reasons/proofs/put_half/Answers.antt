@@ -2,7 +2,6 @@
 -- Assumes nothing.
 use mathlib.Core.Path.{sym, ◌∙◌}
 use native.Mathlib.Omega.{arith}
-use borrow.Author.Rules.{rules}
 use Rattle.reasons.proofs.Entries.{freed_node, freed_edge}
 use Rattle.reasons.proofs.put_half.Goals as goal
 

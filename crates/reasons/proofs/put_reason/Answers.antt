@@ -4,7 +4,6 @@ use mathlib.Core.Path.{ap, ◌∙◌}
 use mathlib.Core.List.{List}
 use Prim.Native.Nat.{ℕ, ◌+◌, ◌*◌}
 use lib.Seq.{sets}
-use borrow.Author.Rules.{rules}
 use Rattle.le.specs.Le.{bytes}
 use Rattle.reasons.proofs.Entries.{entered_four}
 use Rattle.reasons.proofs.put_reason.Goals as goal

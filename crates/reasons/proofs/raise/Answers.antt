@@ -1,7 +1,6 @@
 -- `reasons::raise` meets its contract.
 -- Assumes nothing.
 use mathlib.Core.Path.{sym, ◌∙◌}
-use borrow.Author.Rules.{rules}
 use Rattle.le.specs.Le.{words}
 use Rattle.reasons.proofs.Ends.{raised_kept, raised_set}
 use Rattle.reasons.proofs.raise.Goals as goal

@@ -1,9 +1,8 @@
 -- `reasons::raise_ends` meets its contract.
 -- Assumes nothing.
 use mathlib.Core.Path.{◌≡◌, refl, ◌∙◌, subst}
-use Prim.Native.Nat.{ℕ, ◌-◌, ◌≤◌}
+use Prim.Native.Nat.{ℕ}
 use native.Mathlib.Omega.{arith}
-use lib.ListN.{length}
 use Rattle.le.specs.Le.{words}
 use Rattle.removal.specs.Room.{Went}
 use Rattle.reasons.proofs.Ends.{raised_by, raises_start, raises_turn}

@@ -1,12 +1,11 @@
 -- What the loops of `reasons::raise_ends` keep.
 -- Assumes nothing.
-use mathlib.Core.Path.{◌≡◌, refl, ◌∙◌, subst}
-use Prim.Native.Nat.{ℕ, ◌-◌, ◌≤◌}
-use native.Mathlib.Omega.{arith}
+use mathlib.Core.Path.{◌≡◌}
+use Prim.Native.Nat.{◌-◌, ◌≤◌}
 use lib.ListN.{length}
 use Rattle.le.specs.Le.{words}
 use Rattle.removal.specs.Room.{Went}
-use Rattle.reasons.proofs.Ends.{raised_by, raises_start, raises_turn}
+use Rattle.reasons.proofs.Ends.{raised_by}
 use Rattle.reasons.proofs.raise_ends.Given as goal
 
 abbrev pub invariant-loop-x : goal.invariant-loop-x

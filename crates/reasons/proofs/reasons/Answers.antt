@@ -4,7 +4,6 @@ use mathlib.Core.Path.{◌≡◌, sym, subst}
 use Prim.Native.Nat.{ℕ}
 use native.Mathlib.Omega.{arith}
 use lib.ListN.{length}
-use borrow.Author.Rules.{rules}
 use Rattle.choice.specs.Calls.{room_reasons, reasoned, reasons_call}
 use Rattle.form.specs.Form.{Gives}
 use Rattle.form.specs.Stored.{graph_of, Stored}

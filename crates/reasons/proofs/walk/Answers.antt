@@ -3,7 +3,6 @@
 use Prim.Native.Nat.{◌≤◌}
 use native.Mathlib.Omega.{arith}
 use lib.ListN.{length}
-use borrow.Author.Rules.{rules}
 use Rattle.le.specs.Le.{words}
 use Rattle.le.proofs.Places.{length_words}
 use Rattle.tables.specs.Tables.{picked_at}

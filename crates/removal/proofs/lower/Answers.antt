@@ -12,7 +12,6 @@ use Rattle.tables.specs.Tables.{waiting_at, picked_at}
 use Rattle.removal.specs.Room.{halves_in, Went}
 use Rattle.removal.proofs.Rooms.{roomy_place}
 use Rattle.removal.proofs.Tables.{degree_read, waiting_length, lowered_more, lowered_last}
-use borrow.Author.Rules.{rules}
 use Rattle.removal.proofs.lower.Goals as goal
 
 pub returns-then-d-ne1 : goal.returns-then-d-ne1

@@ -7,7 +7,6 @@ use Rattle.le.specs.Le.{words}
 use Rattle.le.specs.Rows.{Holds}
 use Rattle.removal.specs.Room.{source}
 use Rattle.removal.proofs.Peeling.{low_listed, low_formed, went_listed, went_formed}
-use borrow.Author.Rules.{rules}
 use Rattle.removal.proofs.lower_all.Goals as goal
 
 pub lower_listed-requires : goal.lower_listed-requires

@@ -1,13 +1,12 @@
 -- `removal::lower_formed` meets its contract.
 -- Assumes nothing.
 use mathlib.Core.Path.{◌≡◌, refl, ap, ◌∙◌}
-use Prim.Native.Nat.{ℕ, ◌+◌, ◌-◌, ◌*◌, ◌≤◌, ◌<◌}
+use Prim.Native.Nat.{ℕ, ◌+◌, ◌*◌, ◌<◌}
 use native.Mathlib.Omega.{arith}
-use lib.ListN.{length, get_or, take}
+use lib.ListN.{length, get_or}
 use Rattle.le.specs.Le.{words}
 use Rattle.le.proofs.Rows.{holds_index, holds_less}
-use Rattle.halves.specs.Halves.{lower_all}
-use Rattle.removal.specs.Room.{source, halves_in, form_list, Went}
+use Rattle.removal.specs.Room.{source, form_list}
 use Rattle.removal.proofs.Walks.{in_get_d, walk_start, walk_roomy, walk_turn, walk_done, formed_length, formed_at}
 use Rattle.removal.proofs.lower_formed.Goals as goal
 use Rattle.removal.proofs.lower_formed.Goals.{After-lower-arg-1, After-slice_known-in-loop-j-1}

@@ -1,14 +1,11 @@
 -- What the loops of `removal::lower_formed` keep.
 -- Assumes nothing.
-use mathlib.Core.Path.{◌≡◌, refl, ap, ◌∙◌}
-use Prim.Native.Nat.{ℕ, ◌+◌, ◌-◌, ◌*◌, ◌≤◌, ◌<◌}
-use native.Mathlib.Omega.{arith}
-use lib.ListN.{length, get_or, take}
+use mathlib.Core.Path.{◌≡◌}
+use Prim.Native.Nat.{◌-◌, ◌≤◌}
+use lib.ListN.{length, take}
 use Rattle.le.specs.Le.{words}
-use Rattle.le.proofs.Rows.{holds_index, holds_less}
 use Rattle.halves.specs.Halves.{lower_all}
 use Rattle.removal.specs.Room.{source, halves_in, form_list, Went}
-use Rattle.removal.proofs.Walks.{in_get_d, walk_start, walk_roomy, walk_turn, walk_done, formed_length, formed_at}
 use Rattle.removal.proofs.lower_formed.Given as goal
 
 abbrev pub invariant-loop-j : goal.invariant-loop-j

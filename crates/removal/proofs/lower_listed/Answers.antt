@@ -1,14 +1,13 @@
 -- `removal::lower_listed` meets its contract.
 -- Assumes nothing.
 use mathlib.Core.Path.{◌≡◌, refl, ◌∙◌}
-use Prim.Native.Nat.{◌-◌, ◌≤◌, ◌<◌}
+use Prim.Native.Nat.{◌≤◌, ◌<◌}
 use native.Mathlib.Omega.{arith}
-use lib.ListN.{length, get_or, take}
+use lib.ListN.{length, get_or}
 use Rattle.le.specs.Le.{words}
 use Rattle.le.proofs.Places.{length_words}
-use Rattle.halves.specs.Halves.{lower_all}
 use Rattle.tables.specs.Tables.{picked_at}
-use Rattle.removal.specs.Room.{halves_in, room_list, Went}
+use Rattle.removal.specs.Room.{room_list}
 use Rattle.removal.proofs.Walks.{in_get_d, walk_start, walk_roomy, walk_turn, walk_done, listed_length, listed_at}
 use Rattle.removal.proofs.lower_listed.Goals as goal
 use Rattle.removal.proofs.lower_listed.Goals.{After-loop-j, After-lower-arg-1, After-slice_known-in-loop-j-1}

@@ -1,7 +1,7 @@
 -- `removal::peel` meets its contract.
 -- Assumes nothing.
-use mathlib.Core.Path.{◌≡◌, refl, ◌∙◌, subst, sym}
-use Prim.Native.Nat.{◌+◌, ◌-◌, ◌*◌, ◌≤◌, ◌<◌}
+use mathlib.Core.Path.{refl, ◌∙◌, subst, sym}
+use Prim.Native.Nat.{◌+◌, ◌*◌, ◌≤◌, ◌<◌}
 use native.Mathlib.Omega.{arith}
 use lib.ListN.{length}
 use Rattle.le.specs.Rows.{Holds}
@@ -9,7 +9,7 @@ use Rattle.le.specs.Le.{words}
 use Rattle.le.proofs.Places.{length_words}
 use Rattle.tables.specs.Tables.{picked_at}
 use Rattle.removal.specs.Room.{source, Lists}
-use Rattle.removal.proofs.Peeling.{Peeling, low_listed, low_formed, went_listed, went_formed, lists_steady, peeling_start, next_low, peeling_turn, peeling_done}
+use Rattle.removal.proofs.Peeling.{low_listed, low_formed, went_listed, went_formed, lists_steady, peeling_start, next_low, peeling_turn, peeling_done}
 use Rattle.removal.proofs.peel.Goals as goal
 use Rattle.removal.proofs.peel.Goals.{After-loop-first, After-lower_formed-arg-1, After-lower_listed-arg-1, After-shared_slice_known-1, After-slice_known-else-y-nodes-1, After-slice_known-then-y-nodes-1, After-word-start, After-word-y}
 

@@ -1,15 +1,11 @@
 -- What the loops of `removal::peel` keep.
 -- Assumes nothing.
-use mathlib.Core.Path.{◌≡◌, refl, ◌∙◌, subst, sym}
-use Prim.Native.Nat.{◌+◌, ◌-◌, ◌*◌, ◌≤◌, ◌<◌}
-use native.Mathlib.Omega.{arith}
+use mathlib.Core.Path.{◌≡◌}
+use Prim.Native.Nat.{◌-◌}
 use lib.ListN.{length}
-use Rattle.le.specs.Rows.{Holds}
 use Rattle.le.specs.Le.{words}
-use Rattle.le.proofs.Places.{length_words}
-use Rattle.tables.specs.Tables.{picked_at}
-use Rattle.removal.specs.Room.{source, Lists}
-use Rattle.removal.proofs.Peeling.{Peeling, low_listed, low_formed, went_listed, went_formed, lists_steady, peeling_start, next_low, peeling_turn, peeling_done}
+use Rattle.removal.specs.Room.{source}
+use Rattle.removal.proofs.Peeling.{Peeling}
 use Rattle.removal.proofs.peel.Given as goal
 
 abbrev pub invariant-loop-first : goal.invariant-loop-first

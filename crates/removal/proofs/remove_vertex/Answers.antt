@@ -13,7 +13,6 @@ use Rattle.removal.specs.Room.{source, halves_in, list_in, Roomy, Went}
 use Rattle.removal.proofs.Rooms.{roomy_all}
 use Rattle.removal.proofs.Peeling.{lists_steady}
 use Rattle.removal.proofs.Picking.{roomy_drop, zeroed, went_list}
-use borrow.Author.Rules.{rules}
 use Rattle.removal.proofs.remove_vertex.Goals as goal
 use Rattle.removal.proofs.remove_vertex.Goals.{After-lower_all-arg-1, After-lower_all-arg-2-1, After-slice_known-5-1}
 

@@ -11,7 +11,6 @@ use Rattle.halves.specs.Halves.{seed}
 use Rattle.tables.specs.Tables.{waiting_at}
 use Rattle.removal.specs.Room.{halves_in, Went}
 use Rattle.removal.proofs.Seeding.{seed_loose, seed_none}
-use borrow.Author.Rules.{rules}
 use Rattle.removal.proofs.seed.Goals as goal
 
 pub returns-then-less-ne0 : goal.returns-then-less-ne0

@@ -1,13 +1,11 @@
 -- What the loops of `removal::seed_all` keep.
 -- Assumes nothing.
-use mathlib.Core.Path.{◌≡◌, refl, ◌∙◌, subst}
-use Prim.Native.Nat.{ℕ, ◌-◌, ◌≤◌}
-use native.Mathlib.Omega.{arith}
+use mathlib.Core.Path.{◌≡◌}
+use Prim.Native.Nat.{◌-◌, ◌≤◌}
 use lib.ListN.{length}
 use Rattle.le.specs.Le.{words}
 use Rattle.halves.specs.Halves.{seed_to}
 use Rattle.removal.specs.Room.{halves_in, Went}
-use Rattle.removal.proofs.Seeding.{seeds_start, seeds_turn}
 use Rattle.removal.proofs.seed_all.Given as goal
 
 abbrev pub invariant-loop-x : goal.invariant-loop-x

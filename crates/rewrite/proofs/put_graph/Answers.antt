@@ -5,7 +5,6 @@ use mathlib.Core.Path.{◌≡◌, refl, sym, ap, ◌∙◌, subst}
 use Prim.Native.Nat.{ℕ, ◌+◌}
 use native.Mathlib.Omega.{arith}
 use lib.ListN.{length}
-use borrow.Author.Rules.{rules}
 use Rattle.le.specs.Rows.{Holds, span, puts}
 use Rattle.le.specs.declared.Row.{Row}
 use Rattle.graph.specs.Graph.{Counts}

@@ -1,11 +1,10 @@
 -- `rewrite::put_sizes` meets its contract.
 -- Assumes nothing.
-use mathlib.Core.List.{List, [], ◌∷◌}
+use mathlib.Core.List.{List, ◌∷◌}
 use mathlib.Core.Logic.{inr}
 use mathlib.Core.Path.{refl, ap, ◌∙◌}
 use Prim.Native.Nat.{ℕ}
 use native.Mathlib.Omega.{arith}
-use borrow.Author.Rules.{rules}
 use Rattle.le.specs.Rows.{row_at, puts}
 use Rattle.le.proofs.Rows.{puts_append}
 use Rattle.rewrite.proofs.put_sizes.Goals as goal

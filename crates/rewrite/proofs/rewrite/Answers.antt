@@ -2,7 +2,6 @@
 -- Assumes nothing.
 use mathlib.Core.Path.{ap}
 use lib.ListN.{length}
-use borrow.Author.Rules.{rules}
 use Rattle.graph.specs.Calls.{on_graph, rewrite_step}
 use Rattle.graph.specs.Graph.{Format}
 use Rattle.form.specs.Form.{counts_of}

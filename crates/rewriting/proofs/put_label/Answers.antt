@@ -1,11 +1,10 @@
 -- `rewriting::put_label` meets its contract.
 -- Assumes nothing.
-use mathlib.Core.List.{[], ◌∷◌}
+use mathlib.Core.List.{◌∷◌}
 use mathlib.Core.Path.{ap, ◌∙◌}
 use Rattle.le.specs.Rows.{entry, puts}
 use Rattle.le.specs.declared.Row.{Row}
 use Rattle.le.proofs.Rows.{holds_less}
-use borrow.Author.Rules.{rules}
 use native.Mathlib.Omega.{arith}
 use Rattle.rewriting.proofs.put_label.Goals as goal
 

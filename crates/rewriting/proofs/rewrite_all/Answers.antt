@@ -10,7 +10,6 @@ use Rattle.le.proofs.Rows.{holds_less, holds_same}
 use Rattle.links.specs.Links.{cells, is_listed, Table, both_rows}
 use Rattle.rewriting.specs.Rewriting.{Laid}
 use Rattle.rewriting.proofs.Parts.{all_fresh, planned, lists_ready, lists_passed, AllRewritten}
-use borrow.Author.Rules.{rules}
 use native.Mathlib.Omega.{arith}
 use Rattle.rewriting.proofs.rewrite_all.Goals as goal
 use Rattle.rewriting.proofs.rewrite_all.Goals.{After-put_spiders-arg-1, After-slice_known-7-1}

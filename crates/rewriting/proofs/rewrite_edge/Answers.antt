@@ -1,10 +1,9 @@
 -- `rewriting::rewrite_edge` meets its contract.
 -- Assumes nothing.
-use mathlib.Core.Path.{◌≡◌, refl}
-use Prim.Native.Nat.{◌+◌, ◌-◌, ◌<◌}
+use mathlib.Core.Path.{refl}
+use Prim.Native.Nat.{◌+◌, ◌<◌}
 use Rattle.le.proofs.Rows.{holds_index}
-use Rattle.rewriting.proofs.Passes.{Passed, kind_low, passed_none, passed_ready, passed_more, passed_all}
-use borrow.Author.Rules.{rules}
+use Rattle.rewriting.proofs.Passes.{kind_low, passed_none, passed_ready, passed_more, passed_all}
 use native.Mathlib.Omega.{arith}
 use Rattle.rewriting.proofs.rewrite_edge.Goals as goal
 use Rattle.rewriting.proofs.rewrite_edge.Goals.{After-slice_known-in-loop-i-2-1, After-struct_known-in-loop-i-1}

@@ -1,11 +1,8 @@
 -- What the loops of `rewriting::rewrite_edge` keep.
 -- Assumes nothing.
-use mathlib.Core.Path.{◌≡◌, refl}
-use Prim.Native.Nat.{◌+◌, ◌-◌, ◌<◌}
-use Rattle.le.proofs.Rows.{holds_index}
-use Rattle.rewriting.proofs.Passes.{Passed, kind_low, passed_none, passed_ready, passed_more, passed_all}
-use borrow.Author.Rules.{rules}
-use native.Mathlib.Omega.{arith}
+use mathlib.Core.Path.{◌≡◌}
+use Prim.Native.Nat.{◌+◌, ◌-◌}
+use Rattle.rewriting.proofs.Passes.{Passed}
 use Rattle.rewriting.proofs.rewrite_edge.Given as goal
 
 abbrev pub invariant-loop-i : goal.invariant-loop-i

@@ -1,16 +1,12 @@
 -- What the loops of `rewriting::rewrite_edges` keep.
 -- Assumes nothing.
-use mathlib.Core.Path.{◌≡◌, refl, ◌∙◌}
-use Prim.Native.Nat.{◌-◌, ◌≤◌, ◌<◌}
+use mathlib.Core.Path.{◌≡◌}
+use Prim.Native.Nat.{◌-◌, ◌≤◌}
 use lib.ListN.{length, take}
 use Rattle.graph.specs.Form.{edge_start}
 use Rattle.graph.specs.Graph.{Graph}
 use Rattle.le.specs.Le.{Below}
-use Rattle.le.proofs.Numbers.{below_each}
 use Rattle.rewriting.specs.Rewriting.{EdgesPassed, Laid}
-use Rattle.rewriting.proofs.Lists.{EdgeRead}
-use Rattle.rewriting.proofs.Parts.{walk_start, walk_held, walk_met, walk_ready, walk_more, walk_done}
-use native.Mathlib.Omega.{arith}
 use Rattle.rewriting.proofs.rewrite_edges.Given as goal
 
 abbrev pub invariant-loop-i : goal.invariant-loop-i

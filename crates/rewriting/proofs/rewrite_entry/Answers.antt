@@ -1,7 +1,7 @@
 -- `rewriting::rewrite_entry` meets its contract.
 -- Assumes nothing.
 use mathlib.Core.Bool.{true, false}
-use mathlib.Core.List.{[], ◌∷◌}
+use mathlib.Core.List.{◌∷◌}
 use mathlib.Core.Path.{◌≡◌, sym, ap, ◌∙◌, subst}
 use Prim.Native.Nat.{ℕ, ◌+◌, ◌<◌}
 use native.Mathlib.Nat.{zero-add}
@@ -19,7 +19,6 @@ use Rattle.rewriting.specs.Rewriting.{ids_at, labels_in, Numbered}
 use Rattle.le.proofs.InPlace.{puts_there}
 use Rattle.rewriting.proofs.Lists.{entry_is, entry_known}
 use Rattle.rewriting.proofs.Passes.{pass_plain, pass_fresh}
-use borrow.Author.Rules.{rules}
 use native.Mathlib.Omega.{arith}
 use Rattle.rewriting.proofs.rewrite_entry.Goals as goal
 use Rattle.rewriting.proofs.rewrite_entry.Goals.{After-link-arg-1, After-number-id, After-put_label-arg-1, After-put_number-arg-1, After-slice_known-5-1, Then-not-listed}

@@ -1,11 +1,9 @@
 -- `rewriting::rewrite_lists` meets its contract.
 -- Assumes nothing.
-use mathlib.Core.Path.{◌≡◌, refl}
-use Prim.Native.Nat.{◌+◌, ◌-◌, ◌<◌}
-use Rattle.form.specs.Form.{lists_from}
+use mathlib.Core.Path.{refl}
+use Prim.Native.Nat.{◌+◌, ◌<◌}
 use Rattle.le.proofs.Rows.{holds_index}
-use Rattle.rewriting.proofs.Passes.{Passed, kind_low, passed_none, passed_ready, passed_more, passed_all}
-use borrow.Author.Rules.{rules}
+use Rattle.rewriting.proofs.Passes.{kind_low, passed_none, passed_ready, passed_more, passed_all}
 use native.Mathlib.Omega.{arith}
 use Rattle.rewriting.proofs.rewrite_lists.Goals as goal
 use Rattle.rewriting.proofs.rewrite_lists.Goals.{After-rewrite_entry-arg-in-loop-i-1, After-slice_known-in-loop-i-2-1}

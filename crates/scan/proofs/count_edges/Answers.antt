@@ -1,11 +1,10 @@
 -- `scan::count_edges` meets its contract.
 -- Assumes nothing.
-use mathlib.Core.Path.{◌≡◌, refl, ◌∙◌, subst}
-use Prim.Native.Nat.{ℕ, ◌-◌, ◌≤◌}
+use mathlib.Core.Path.{refl, ◌∙◌, subst}
+use Prim.Native.Nat.{ℕ}
 use native.Mathlib.Nat.{le_antisymm}
 use native.Mathlib.Omega.{arith}
 use Rattle.le.proofs.Rows.{holds_less, holds_index}
-use Rattle.graph.specs.Form.{edge_start}
 use Rattle.form.specs.Stored.{graph_of}
 use Rattle.form.proofs.Stored.{stored_rows}
 use Rattle.marks.specs.Tables.{shifted_all}

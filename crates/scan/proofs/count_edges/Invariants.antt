@@ -1,17 +1,10 @@
 -- What the loops of `scan::count_edges` keep.
 -- Assumes nothing.
-use mathlib.Core.Path.{◌≡◌, refl, ◌∙◌, subst}
-use Prim.Native.Nat.{ℕ, ◌-◌, ◌≤◌}
-use native.Mathlib.Nat.{le_antisymm}
-use native.Mathlib.Omega.{arith}
-use Rattle.le.proofs.Rows.{holds_less, holds_index}
+use mathlib.Core.Path.{◌≡◌}
+use Prim.Native.Nat.{◌-◌, ◌≤◌}
 use Rattle.graph.specs.Form.{edge_start}
 use Rattle.form.specs.Stored.{graph_of}
-use Rattle.form.proofs.Stored.{stored_rows}
-use Rattle.marks.specs.Tables.{shifted_all}
 use Rattle.scan.specs.Stages.{Counted}
-use Rattle.sweeps.proofs.Form.{is_edges, drawn, Read, counts_held, read_edge_lem}
-use Rattle.scan.proofs.Beginning.{counted_turn}
 use Rattle.scan.proofs.count_edges.Given as goal
 
 abbrev pub invariant-loop-i : goal.invariant-loop-i

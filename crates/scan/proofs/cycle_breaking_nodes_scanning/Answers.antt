@@ -5,7 +5,6 @@ use mathlib.Core.Path.{◌≡◌, sym, ap, ◌∙◌, subst}
 use Prim.Native.Nat.{ℕ, ◌≤◌}
 use native.Mathlib.Omega.{arith}
 use lib.ListN.{length}
-use borrow.Author.Rules.{rules}
 use Rattle.choice.specs.Calls.{listing, room_cycle_breaking_nodes_scanning, cycle_broken_keeping, cycle_breaking_nodes_scanning_call}
 use Rattle.choice.specs.Keeping.{chosen_keeping}
 use Rattle.form.specs.Form.{Gives}

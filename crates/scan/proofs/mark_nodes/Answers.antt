@@ -5,7 +5,6 @@ use mathlib.Core.List.{List}
 use Prim.Native.Nat.{ℕ, ◌+◌, ◌≤◌}
 use native.Mathlib.Omega.{arith}
 use lib.ListN.{length}
-use borrow.Author.Rules.{rules}
 use Rattle.le.specs.Rows.{row_at, span}
 use Rattle.form.specs.Stored.{graph_of}
 use Rattle.choice.specs.Arcs.{size}

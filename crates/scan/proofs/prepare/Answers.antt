@@ -7,7 +7,6 @@ use native.Mathlib.Nat.{le_refl}
 use native.Mathlib.Omega.{arith}
 use lib.ListN.{length, replicate}
 use lib.Seq.{sets}
-use borrow.Author.Rules.{rules}
 use Rattle.le.specs.Le.{Below}
 use Rattle.le.specs.Rows.{row_at, span}
 use Rattle.le.proofs.Numbers.{below_widen}

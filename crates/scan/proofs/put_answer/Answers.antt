@@ -9,7 +9,6 @@ use Rattle.le.proofs.Rows.{wide_some}
 use Rattle.choice.specs.Passing.{shown_below}
 use Rattle.scan.specs.Stages.{is_chosen}
 use Rattle.scan.proofs.Answering.{listing_10, listing_0}
-use borrow.Author.Rules.{rules}
 use Rattle.scan.proofs.put_answer.Goals as goal
 use Rattle.scan.proofs.put_answer.Goals.{After-put_chosen-arg-1, After-slice_known-2-1, Then-list-ids}
 

@@ -1,14 +1,12 @@
 -- `scan::put_chosen` meets its contract.
 -- Assumes nothing.
-use mathlib.Core.Path.{◌≡◌, refl, sym, ap, ◌∙◌}
-use Prim.Native.Nat.{◌≤◌, ◌-◌}
+use mathlib.Core.Path.{refl, sym, ap, ◌∙◌}
 use native.Mathlib.Nat.{le_antisymm}
 use native.Mathlib.Omega.{arith}
 use lib.ListN.{length-append, length}
 use Rattle.choice.specs.Passing.{shown, shown_below}
 use Rattle.choice.proofs.Passing.{shown_next, shown_fits}
 use Rattle.scan.specs.Stages.{is_chosen}
-use Rattle.le.specs.Rows.{puts}
 use Rattle.le.proofs.Rows.{holds_less, holds_same, puts_none}
 use Rattle.scan.proofs.Answering.{shown_turn}
 use Rattle.scan.proofs.put_chosen.Goals as goal

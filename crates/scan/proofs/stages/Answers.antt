@@ -1,7 +1,6 @@
 -- `scan::stages` meets its contract.
 -- Assumes nothing.
 use mathlib.Core.Path.{◌≡◌, refl, ◌∙◌, subst}
-use mathlib.Core.List.{List}
 use mathlib.Core.Logic.{⊎_elim}
 use Prim.Native.Nat.{ℕ, ◌+◌, ◌≤◌, ◌<◌}
 use native.Mathlib.Nat.{eq-zero-or-pos}
@@ -11,10 +10,10 @@ use Rattle.form.specs.Stored.{graph_of}
 use Rattle.choice.specs.Arcs.{size}
 use Rattle.choice.specs.Drawing.{vertex_count}
 use Rattle.marks.specs.Tables.{left}
-use Rattle.scan.specs.Stages.{Top, Begun}
+use Rattle.scan.specs.Stages.{Top}
 use Rattle.sweeps.proofs.Form.{is_nodes, is_all, drawn}
 use Rattle.scan.proofs.Choosing.{pick_size}
-use Rattle.scan.proofs.Staging.{Run, run_start, run_stuck, run_turn, run_done}
+use Rattle.scan.proofs.Staging.{run_start, run_stuck, run_turn, run_done}
 use Rattle.scan.proofs.stages.Goals as goal
 use Rattle.scan.proofs.stages.Goals.{After-loop-gone, After-slice_known-in-loop-gone-1, After-struct_known-1, At-loop-gone, Else-best-eq0, Then-best-eq0}
 

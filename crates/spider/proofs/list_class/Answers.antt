@@ -4,7 +4,6 @@ use mathlib.Core.Path.{ap, ◌∙◌}
 use Prim.Native.Nat.{ℕ, ◌*◌}
 use lib.ListN.{replicate}
 use lib.Seq.{sets}
-use borrow.Author.Rules.{rules}
 use native.Mathlib.Omega.{arith}
 use Rattle.links.specs.Links.{cells}
 use Rattle.copying.specs.Merged.{table_of}

@@ -1,24 +1,16 @@
 -- What the loops of `spider::list_classes` keep.
 -- Assumes nothing.
 use mathlib.Core.Bool.{false}
-use mathlib.Core.Path.{◌≡◌, refl, sym, ap, ◌∙◌, subst}
-use Prim.Native.Nat.{ℕ, ◌+◌, ◌-◌, ◌*◌, ◌≤◌, ◌<◌}
-use native.Mathlib.Nat.{le_antisymm, zero-add}
-use lib.ListN.{length, get_or, replicate}
-use lib.Seq.{sets}
+use mathlib.Core.Path.{◌≡◌}
+use Prim.Native.Nat.{ℕ, ◌-◌, ◌≤◌, ◌<◌}
+use lib.ListN.{length, get_or}
 use Rattle.graph.specs.Graph.{largest}
 use Rattle.graph.specs.Lists.{among}
 use Rattle.graph.specs.Merge.{looked}
 use Rattle.le.specs.Le.{words}
-use Rattle.le.specs.Rows.{entry, span}
-use Rattle.le.proofs.Rows.{holds_less}
+use Rattle.le.specs.Rows.{span}
 use Rattle.links.specs.Links.{cells, Heads}
-use Rattle.links.proofs.Cells.{list_more, length_cells}
-use Rattle.write.proofs.Grows.{entry_below}
 use Rattle.copying.specs.Merged.{table_of}
-use Rattle.spider.proofs.Behind.{heads_behind}
-use Rattle.copying.proofs.Mapping.{looked_next, class_below}
-use native.Mathlib.Omega.{arith}
 use Rattle.spider.proofs.list_classes.Given as goal
 
 abbrev pub invariant-loop-j : goal.invariant-loop-j

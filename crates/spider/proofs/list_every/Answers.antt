@@ -1,7 +1,6 @@
 -- `spider::list_every` meets its contract.
 -- Assumes nothing.
 use mathlib.Core.Bool.{true}
-use borrow.Author.Rules.{rules}
 use native.Mathlib.Omega.{arith}
 use Rattle.spider.proofs.Behind.{listed_behind}
 use Rattle.spider.proofs.list_every.Goals as goal

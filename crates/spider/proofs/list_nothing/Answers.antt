@@ -1,7 +1,6 @@
 -- `spider::list_nothing` meets its contract.
 -- Assumes nothing.
 use mathlib.Core.Bool.{false}
-use borrow.Author.Rules.{rules}
 use native.Mathlib.Omega.{arith}
 use Rattle.spider.proofs.Behind.{listed_behind}
 use Rattle.spider.proofs.list_nothing.Goals as goal

@@ -1,6 +1,5 @@
 -- `spider::spiderize` meets its contract.
 -- Assumes nothing.
-use mathlib.Core.List.{[]}
 use mathlib.Core.Path.{◌≡◌}
 use Prim.Native.Nat.{◌≤◌}
 use lib.ListN.{length}
@@ -15,7 +14,6 @@ use Rattle.write.proofs.Calls.{gives_by}
 use Rattle.copying.specs.Merged.{table_of}
 use Rattle.spider.proofs.Calls.{Opened, opened, short, unreadable, stopped, listed_all}
 use Rattle.copying.proofs.Ready.{Told, classes_told, classes_few, told_kept, ready, step_all}
-use borrow.Author.Rules.{rules}
 use native.Mathlib.Omega.{arith}
 use Rattle.spider.proofs.spiderize.Goals as goal
 use Rattle.spider.proofs.spiderize.Goals.{After-list_every-arg-1, After-map_classes-arg-1, After-refusal-in_default-merging, After-slice_known-6-1, After-write_spiderized-arg-2-1}

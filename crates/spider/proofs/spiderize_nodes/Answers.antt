@@ -1,6 +1,6 @@
 -- `spider::spiderize_nodes` meets its contract.
 -- Assumes nothing.
-use mathlib.Core.List.{List, []}
+use mathlib.Core.List.{List}
 use mathlib.Core.Path.{◌≡◌, sym, ap, ◌∙◌}
 use Prim.Native.Nat.{ℕ, ◌≤◌}
 use lib.ListN.{length}
@@ -23,7 +23,6 @@ use Rattle.write.proofs.Calls.{gives_by}
 use Rattle.copying.specs.Merged.{table_of}
 use Rattle.spider.proofs.Calls.{Opened, opened, short, unreadable, stopped, listed_ids}
 use Rattle.copying.proofs.Ready.{Told, classes_told, classes_few, classes_known, classes_looked, told_kept, ready, step_listed}
-use borrow.Author.Rules.{rules}
 use native.Mathlib.Omega.{arith}
 use Rattle.spider.proofs.spiderize_nodes.Goals as goal
 use Rattle.spider.proofs.spiderize_nodes.Goals.{After-list_classes-arg-1, After-list_nothing-arg-1, After-map_classes-arg-1, After-refusal, After-refusal-in_default-graph, After-refusal-in_default-list, After-refusal-in_default-merging, After-slice_known-7-1, After-write_spiderized-arg-2-1, In-Sized}

@@ -13,12 +13,10 @@ use Rattle.write.proofs.Calls.{graph_refused, graph_done}
 use Rattle.write.proofs.Results.{Fits, result_fits, fits_room, room_same}
 use Rattle.rewriting.specs.Rewriting.{Plan, Laid}
 use Rattle.copying.specs.Merged.{table_of, merged_of, spidered_of}
-use Rattle.spider.proofs.Behind.{back_long}
 use Rattle.spider.proofs.Calls.{passes}
 use Rattle.copying.proofs.Merging.{merged_edges}
 use Rattle.rewriting.proofs.Parts.{copied_done, written_done}
 use Rattle.copying.proofs.Ready.{ready_plan, merged_rows}
-use borrow.Author.Rules.{rules}
 use native.Mathlib.Omega.{arith}
 use Rattle.spider.proofs.write_spiderized.Goals as goal
 use Rattle.spider.proofs.write_spiderized.Goals.{After-put_copied-arg-1, After-refusal, After-result_sizes-y, After-rewrite_all-arg-2-1, After-slice_known-5-1}

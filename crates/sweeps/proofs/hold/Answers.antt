@@ -2,7 +2,6 @@
 -- Assumes nothing.
 use Prim.Native.Nat.{◌+◌, ◌*◌}
 use native.Mathlib.Omega.{arith}
-use borrow.Author.Rules.{rules}
 use Rattle.le.proofs.Rows.{holds_less, holds_index}
 use Rattle.marks.proofs.Tables.{alike_set}
 use Rattle.sweeps.proofs.hold.Goals as goal

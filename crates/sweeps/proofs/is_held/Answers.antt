@@ -5,7 +5,6 @@ use mathlib.Core.Bool.{Bool, ◌&&◌, not, false≢true}
 use Prim.Native.Nat.{◌+◌, ◌%◌}
 use native.Mathlib.Omega.{arith}
 use lib.ListN.{get_or}
-use borrow.Author.Rules.{rules}
 use borrow.Author.Tests.{eq-eqb, ne_eqb, not-false}
 use Rattle.le.specs.Rows.{span}
 use Rattle.le.proofs.Rows.{holds_less, holds_index}

@@ -1,6 +1,5 @@
 -- `sweeps::seek` meets its contract.
 -- Assumes nothing.
-use Prim.Native.Nat.{◌-◌, ◌≤◌}
 use native.Mathlib.Omega.{arith}
 use Rattle.sweeps.proofs.seek.Goals as goal
 

@@ -1,7 +1,6 @@
 -- What the loops of `sweeps::seek` keep.
 -- Assumes nothing.
 use Prim.Native.Nat.{◌-◌, ◌≤◌}
-use native.Mathlib.Omega.{arith}
 use Rattle.sweeps.proofs.seek.Given as goal
 
 abbrev pub invariant-loop-k : goal.invariant-loop-k

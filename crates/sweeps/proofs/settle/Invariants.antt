@@ -1,18 +1,12 @@
 -- What the loops of `sweeps::settle` keep.
 -- Assumes nothing.
-use mathlib.Core.Path.{◌≡◌, refl, sym, ◌∙◌, subst}
-use mathlib.Core.Logic.{⊎_elim}
-use Prim.Native.Nat.{ℕ, suc}
-use native.Mathlib.Nat.{eq-or-lt_of_le}
-use native.Mathlib.Omega.{arith}
+use mathlib.Core.Path.{◌≡◌}
+use Prim.Native.Nat.{ℕ}
 use lib.ListN.{length}
 use Rattle.form.specs.Stored.{graph_of}
 use Rattle.choice.specs.Arcs.{size}
-use Rattle.choice.specs.Drawing.{vertex_count}
 use Rattle.marks.specs.Tables.{left}
-use Rattle.sweeps.specs.Sweeps.{Moves, Swept, Sweeps, start, another}
-use Rattle.sweeps.proofs.Form.{is_edges, drawn}
-use Rattle.sweeps.proofs.Sweeping.{size_few, moves_none, moves_then, settled_stable}
+use Rattle.sweeps.specs.Sweeps.{Moves, Sweeps}
 use Rattle.sweeps.proofs.settle.Given as goal
 
 abbrev pub invariant-loop-z : goal.invariant-loop-z

@@ -2,11 +2,11 @@
 -- Assumes nothing.
 use mathlib.Core.Path.{◌≡◌, refl, ◌∙◌, subst}
 use mathlib.Core.List.{List}
-use Prim.Native.Nat.{ℕ, ◌+◌, ◌-◌, ◌≤◌}
+use Prim.Native.Nat.{ℕ, ◌+◌, ◌≤◌}
 use native.Mathlib.Nat.{le_antisymm}
 use native.Mathlib.Omega.{arith}
 use lib.ListN.{length, get_or}
-use Rattle.graph.specs.Form.{no_edge, edge_start}
+use Rattle.graph.specs.Form.{no_edge}
 use Rattle.form.specs.Stored.{graph_of}
 use Rattle.form.proofs.Stored.{stored_rows}
 use Rattle.choice.specs.Calls.{room_cycle_breaking_nodes_scanning}

@@ -1,9 +1,8 @@
 -- `write::put_counts` meets its contract.
 -- Assumes nothing.
 use mathlib.Core.Path.{ap, ◌∙◌}
-use mathlib.Core.List.{List, ◌∷◌, []}
+use mathlib.Core.List.{List, ◌∷◌}
 use Prim.Native.Nat.{ℕ}
-use borrow.Author.Rules.{rules}
 use Rattle.le.specs.Rows.{row_at, puts}
 use Rattle.le.proofs.Rows.{puts_append}
 use Rattle.write.proofs.put_counts.Goals as goal

@@ -1,9 +1,7 @@
 -- `write::put_mark` meets its contract.
 -- Assumes nothing.
-use mathlib.Core.Path.{ap, ◌∙◌}
 use native.Mathlib.Omega.{arith}
-use lib.ListN.{length, length-set}
-use borrow.Author.Rules.{rules}
+use lib.ListN.{length-set}
 use Rattle.write.proofs.put_mark.Goals as goal
 
 pub bounds-out-1 : goal.bounds-out-1

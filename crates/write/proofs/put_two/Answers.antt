@@ -1,10 +1,9 @@
 -- `write::put_two` meets its contract.
 -- Assumes nothing.
 use mathlib.Core.Path.{ap, ◌∙◌}
-use mathlib.Core.List.{List, ◌∷◌, []}
+use mathlib.Core.List.{List, ◌∷◌}
 use Prim.Native.Nat.{ℕ, ◌+◌}
 use native.Mathlib.Omega.{arith}
-use borrow.Author.Rules.{rules}
 use Rattle.le.specs.Rows.{puts}
 use Rattle.le.proofs.Rows.{holds_index, puts_append}
 use Rattle.write.proofs.put_two.Goals as goal

@@ -1,9 +1,7 @@
 -- `write::result_size` meets its contract.
 -- Assumes nothing.
 use mathlib.Core.Path.{sym, ◌∙◌}
-use borrow.Author.Rules.{rules}
 use borrow.Author.Tests.{not-true, not-false, le-leb, lt-leb}
-use Rattle.graph.specs.Answer.{◌else◌, ◌>>◌}
 use Rattle.write.specs.Write.{result_size}
 use Rattle.write.proofs.Results.{fitted_low, form_long}
 use Rattle.write.proofs.result_size.Goals as goal

@@ -2,7 +2,6 @@
 -- Assumes nothing.
 use mathlib.Core.Path.{ap}
 use Prim.Native.Nat.{ℕ}
-use borrow.Author.Rules.{rules}
 use Rattle.form.specs.Form.{sized}
 use Rattle.write.specs.Write.{counted_as}
 use Rattle.write.proofs.sized.Goals as goal

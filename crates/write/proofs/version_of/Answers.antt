@@ -1,7 +1,6 @@
 -- `write::version_of` meets its contract.
 -- Assumes nothing.
 use mathlib.Core.Path.{◌≡◌, sym, ap, ◌∙◌}
-use borrow.Author.Rules.{rules}
 use Rattle.graph.specs.Graph.{Format}
 use Rattle.write.proofs.Results.{narrow_first, wide_second}
 use Rattle.write.proofs.version_of.Goals as goal

@@ -1,7 +1,6 @@
 -- `write::within_limits` meets its contract.
 -- Assumes nothing.
 use mathlib.Core.Path.{sym, ap, ◌∙◌}
-use borrow.Author.Rules.{rules}
 use Rattle.graph.specs.Graph.{Format, sizes_fit}
 use Rattle.form.specs.Form.{counts_of}
 use Rattle.write.proofs.Results.{narrow_fits}

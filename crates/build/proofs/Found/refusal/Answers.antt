@@ -1,7 +1,6 @@
 -- `build::Found::refusal` meets its contract.
 -- Assumes nothing.
 use mathlib.Core.Path.{sym, ap}
-use borrow.Author.Rules.{rules}
 use Rattle.build.specs.Turns.{refusal_found}
 use Rattle.build.proofs.Found.refusal.Goals as goal
 

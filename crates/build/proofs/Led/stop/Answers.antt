@@ -1,7 +1,6 @@
 -- `build::Led::stop` meets its contract.
 -- Assumes nothing.
 use mathlib.Core.Path.{sym, ap}
-use borrow.Author.Rules.{rules}
 use Rattle.build.specs.Turns.{stop_in}
 use Rattle.build.proofs.Led.stop.Goals as goal
 

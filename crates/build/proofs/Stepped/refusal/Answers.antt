@@ -1,7 +1,6 @@
 -- `build::Stepped::refusal` meets its contract.
 -- Assumes nothing.
 use mathlib.Core.Path.{sym, ap}
-use borrow.Author.Rules.{rules}
 use Rattle.build.specs.Turns.{refusal_turned}
 use Rattle.build.proofs.Stepped.refusal.Goals as goal
 

@@ -1,7 +1,6 @@
 -- `form::Reading::refusal` meets its contract.
 -- Assumes nothing.
 use mathlib.Core.Path.{sym, ap}
-use borrow.Author.Rules.{rules}
 use Rattle.form.specs.Form.{refusal_read}
 use Rattle.form.proofs.Reading.refusal.Goals as goal
 

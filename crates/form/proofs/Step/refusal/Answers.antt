@@ -1,7 +1,6 @@
 -- `form::Step::refusal` meets its contract.
 -- Assumes nothing.
 use mathlib.Core.Path.{sym, ap}
-use borrow.Author.Rules.{rules}
 use Rattle.form.specs.Form.{refusal_in}
 use Rattle.form.proofs.Step.refusal.Goals as goal
 

@@ -1,9 +1,7 @@
 -- `price::range::add_bill` meets its contract.
 -- Assumes nothing.
-use mathlib.Core.Path.{◌≡◌}
 use Prim.Native.Nat.{◌+◌}
 use native.Mathlib.Omega.{arith}
-use borrow.Author.Rules.{rules}
 use Rattle.le.proofs.Numbers.{below_widen}
 use Rattle.price.proofs.range.add_bill.Goals as goal
 

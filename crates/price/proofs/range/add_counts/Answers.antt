@@ -1,12 +1,9 @@
 -- `price::range::add_counts` meets its contract.
 -- Assumes nothing.
-use mathlib.Core.Path.{◌≡◌, sym, ◌∙◌}
-use Prim.Native.Nat.{◌-◌, ◌≤◌}
+use mathlib.Core.Path.{sym, ◌∙◌}
 use native.Mathlib.Omega.{arith}
-use lib.ListN.{length}
-use borrow.Author.Rules.{rules}
 use Rattle.le.proofs.Numbers.{below_at}
-use Rattle.price.proofs.Adding.{Half, half_none, half_next, half_all}
+use Rattle.price.proofs.Adding.{half_none, half_next, half_all}
 use Rattle.price.proofs.range.add_counts.Goals as goal
 
 pub loop-k-init : goal.loop-k-init

@@ -3,7 +3,6 @@
 use mathlib.Core.Path.{◌≡◌, sym, ap, ◌∙◌, subst}
 use native.Mathlib.Omega.{arith}
 use lib.ListN.{length}
-use borrow.Author.Rules.{rules}
 use Rattle.graph.specs.Answer.{answered, refused}
 use Rattle.graph.specs.Calls.{in_work_room}
 use Rattle.graph.proofs.Verdicts.{in_room}
@@ -11,7 +10,6 @@ use Rattle.le.specs.Le.{Below}
 use Rattle.le.proofs.Numbers.{below_each}
 use Rattle.form.specs.Form.{meant_by}
 use Rattle.form.proofs.Answers.{passed_on}
-use Rattle.parts.specs.declared.Bill.{Bill}
 use Rattle.parts.specs.Parts.{bill_of}
 use Rattle.catalogue.specs.Price as spec
 use Rattle.catalogue.specs.Price.{Priced, room_price}

@@ -2,7 +2,6 @@
 -- Assumes nothing.
 use Prim.Native.Nat.{◌-◌}
 use native.Mathlib.Omega.{arith}
-use borrow.Author.Rules.{rules}
 use Rattle.catalogue.proofs.Bounds.{get_d_below}
 use Rattle.price.proofs.range.add_refusal.Goals as goal
 

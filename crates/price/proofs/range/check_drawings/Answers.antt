@@ -1,10 +1,8 @@
 -- `price::range::check_drawings` meets its contract.
 -- Assumes nothing.
-use mathlib.Core.Path.{◌≡◌, refl, sym, ap, ◌∙◌}
-use Prim.Native.Nat.{◌+◌, ◌-◌, ◌≤◌, ◌<◌}
+use Prim.Native.Nat.{◌+◌}
 use native.Mathlib.Omega.{arith}
-use lib.ListN.{length, drop}
-use borrow.Author.Rules.{rules}
+use lib.ListN.{drop}
 use Rattle.form.specs.Form.{meant_by}
 use Rattle.form.proofs.Answers.{number_refused, number_answered, passed_on}
 use Rattle.catalogue.specs.Range.{first_length}

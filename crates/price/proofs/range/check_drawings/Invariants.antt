@@ -1,14 +1,8 @@
 -- What the loops of `price::range::check_drawings` keep.
 -- Assumes nothing.
-use mathlib.Core.Path.{◌≡◌, refl, sym, ap, ◌∙◌}
-use Prim.Native.Nat.{◌+◌, ◌-◌, ◌≤◌, ◌<◌}
-use native.Mathlib.Omega.{arith}
-use lib.ListN.{length, drop}
-use borrow.Author.Rules.{rules}
-use Rattle.form.specs.Form.{meant_by}
-use Rattle.form.proofs.Answers.{number_refused, number_answered, passed_on}
-use Rattle.catalogue.specs.Range.{first_length}
-use Rattle.catalogue.proofs.Slices.{Passed, none_passed, all_passed, too_many, length_refused, one_passed}
+use Prim.Native.Nat.{◌-◌}
+use lib.ListN.{length}
+use Rattle.catalogue.proofs.Slices.{Passed}
 use Rattle.price.proofs.range.check_drawings.Given as goal
 
 abbrev pub invariant-loop-next : goal.invariant-loop-next

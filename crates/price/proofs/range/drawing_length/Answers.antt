@@ -1,11 +1,9 @@
 -- `price::range::drawing_length` meets its contract.
 -- Assumes nothing.
-use mathlib.Core.Path.{◌≡◌, sym, ap, ◌∙◌}
-use Prim.Native.Nat.{◌≤◌, ◌<◌}
+use mathlib.Core.Path.{sym, ap, ◌∙◌}
+use Prim.Native.Nat.{◌≤◌}
 use native.Mathlib.Omega.{arith}
 use lib.ListN.{length, drop, length-drop}
-use borrow.Author.Rules.{rules}
-use Rattle.le.specs.Le.{number_at}
 use Rattle.form.specs.Form.{numbered}
 use Rattle.form.specs.declared.Step.TheVariants as step
 use Rattle.catalogue.proofs.Slices.{first_short, first_past, first_whole}

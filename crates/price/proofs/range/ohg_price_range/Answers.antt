@@ -1,7 +1,6 @@
 -- `price::range::ohg_price_range` meets its contract.
 -- Assumes nothing.
 use lib.ListN.{length}
-use borrow.Author.Rules.{rules}
 use Rattle.packing.proofs.Packing.{packs, returns_of}
 use Rattle.price.proofs.Called.{range_ranged}
 use Rattle.price.proofs.range.ohg_price_range.Goals as goal

@@ -5,7 +5,6 @@ use mathlib.Core.Path.{◌≡◌, sym, subst}
 use Prim.Native.Nat.{ℕ}
 use native.Mathlib.Omega.{arith}
 use lib.ListN.{length}
-use borrow.Author.Rules.{rules}
 use Rattle.graph.specs.Answer.{answered}
 use Rattle.graph.specs.Calls.{in_work_room}
 use Rattle.graph.proofs.Answers.{worked}

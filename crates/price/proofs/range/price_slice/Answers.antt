@@ -1,9 +1,7 @@
 -- `price::range::price_slice` meets its contract.
 -- Assumes nothing.
-use mathlib.Core.List.{List}
 use mathlib.Core.Path.{◌≡◌, sym, ap, ◌∙◌}
 use lib.ListN.{length}
-use borrow.Author.Rules.{rules}
 use Rattle.graph.specs.Answer.{answered}
 use Rattle.form.specs.declared.Step.TheVariants as step
 use Rattle.form.proofs.Answers.{test_refused, test_answered, passed_on, work_short, work_enough, room_enough}

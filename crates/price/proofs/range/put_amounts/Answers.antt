@@ -1,9 +1,8 @@
 -- `price::range::put_amounts` meets its contract.
 -- Assumes nothing.
-use mathlib.Core.Path.{◌≡◌, ◌∙◌}
+use mathlib.Core.Path.{◌∙◌}
 use mathlib.Core.List.{◌++◌}
 use lib.Seq.{sets}
-use borrow.Author.Rules.{rules}
 use Rattle.le.specs.Le.{bytes}
 use Rattle.price.proofs.Reporting.{amounts_put}
 use Rattle.price.proofs.range.put_amounts.Goals as goal

@@ -1,6 +1,5 @@
 -- `price::range::put_report` meets its contract.
 -- Assumes nothing.
-use borrow.Author.Rules.{rules}
 use Rattle.price.specs.Totals.{front_of, amounts_of}
 use Rattle.price.proofs.Reporting.{front_long, report_put}
 use Rattle.price.proofs.range.put_report.Goals as goal

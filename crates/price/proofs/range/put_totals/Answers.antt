@@ -1,6 +1,5 @@
 -- `price::range::put_totals` meets its contract.
 -- Assumes nothing.
-use borrow.Author.Rules.{rules}
 use Rattle.price.proofs.Reporting.{totals_put}
 use Rattle.price.proofs.range.put_totals.Goals as goal
 
