@@ -2,11 +2,7 @@
 use mathlib.Core.Path.{sym}
 use Prim.Native.Nat.{ℕ}
 use lib.ListN.{length-replicate}
-use Rattle.range.proofs.four_mebibytes.Statement.{statement}
-use Rattle.range.proofs.four_mebibytes.Tie as tie
+use Rattle.range.proofs.four_mebibytes.Goals as goal
 
-returns : tie.Need-returns
+pub returns : goal.returns
 returns c = sym (length-replicate {A = ℕ} 4194304 0)
-
-pub four-mebibytes-spec : {M : Type 1} → statement M
-four-mebibytes-spec = tie.close (tie.spec returns)
