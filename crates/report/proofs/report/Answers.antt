@@ -3,12 +3,11 @@
 use mathlib.Core.Path.{ap, subst, ◌∙◌}
 use mathlib.Core.List.{List}
 use Prim.Native.Nat.{ℕ}
-use native.Mathlib.Omega.{arith}
 use lib.ListN.{length}
 use Rattle.form.specs.Form.{meant_by, refusal_read}
 use Rattle.form.specs.declared.Refusal.{Refusal}
 use Rattle.text.specs.Text.{Printed, refused_line}
-use Rattle.report.proofs.Reports.{Alone, unread_alone, read_alone, Drawing, text_unread, text_refused, text_done}
+use Rattle.report.proofs.Reports.{unread_alone, read_alone, text_unread, text_refused, text_done}
 use Rattle.report.proofs.report.Goals as goal
 
 pub returns-in_default-clause-printed : goal.returns-in_default-clause-printed
