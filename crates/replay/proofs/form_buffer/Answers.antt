@@ -2,11 +2,7 @@
 use mathlib.Core.Path.{sym}
 use Prim.Native.Nat.{ℕ}
 use lib.ListN.{length-replicate}
-use Rattle.replay.proofs.form_buffer.Statement.{statement}
-use Rattle.replay.proofs.form_buffer.Tie as tie
+use Rattle.replay.proofs.form_buffer.Goals as goal
 
-returns : tie.Need-returns
+pub returns : goal.returns
 returns c = sym (length-replicate {A = ℕ} 720896 0)
-
-pub form-buffer-spec : {M : Type 1} → statement M
-form-buffer-spec = tie.close (tie.spec returns)

@@ -2,11 +2,7 @@
 use mathlib.Core.Path.{sym}
 use Prim.Native.Nat.{ℕ}
 use lib.ListN.{length-replicate}
-use Rattle.replay.proofs.mebibyte.Statement.{statement}
-use Rattle.replay.proofs.mebibyte.Tie as tie
+use Rattle.replay.proofs.mebibyte.Goals as goal
 
-returns : tie.Need-returns
+pub returns : goal.returns
 returns c = sym (length-replicate {A = ℕ} 1048576 0)
-
-pub mebibyte-spec : {M : Type 1} → statement M
-mebibyte-spec = tie.close (tie.spec returns)
