@@ -12,7 +12,6 @@ ghost use Rattle.text.specs.Text.{Printed};
 ghost use Rattle.bill.specs.Bill.{bill_text, bill_room};
 
 use form::Step;
-use libc::{STDERR_FILENO, STDIN_FILENO, STDOUT_FILENO};
 use lines::put_list;
 use text::put_refusal;
 
@@ -51,19 +50,16 @@ fn room_buffer() -> [u8; parts::ROOM_PRICE]
 // (`bill_of_prefix`, proofs/Prefix).
 //
 // A read that fails is told on standard error, and then there is no bill: `refused 1` or `refused 5` would blame the drawing. A write that fails is told there too.
-fn main() {
+fn main(rt: HostRuntime) -> std::io::Result<()> {
     let mut form = mebibyte();
-    let n = io::read_full(STDIN_FILENO, &mut form);
-    if n < form.len() {
-        if !text::is_ended() {
-            io::write_all(STDERR_FILENO, b"bill: standard input can't be read\n");
-            return;
-        }
-    }
+    let Ok(n) = text::read_full(&mut rt.stdin(), &mut form) else {
+        return rt.eprintln("bill: standard input can't be read");
+    };
     let mut room = room_buffer();
     let mut out = io::large_buffer();
     let k = bill(&form[..n], &mut room, &mut out);
-    if !io::write_all(STDOUT_FILENO, &out[..k]) {
-        io::write_all(STDERR_FILENO, b"bill: standard output can't be written\n");
+    if rt.write_all(&out[..k]).is_err() {
+        return rt.eprintln("bill: standard output can't be written");
     }
+    Ok(())
 }

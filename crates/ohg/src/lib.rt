@@ -1,4 +1,4 @@
-// The functions that the tool calls from C. Each checks its input itself, and returns code, a and b packed into one number.
+// The functions that the tool calls from C, where `ohg_c` exports each under its name. Each checks its input itself, and returns code, a and b packed into one number.
 #![tactic(auto)]
 
 ghost use Rattle.std.specs.Prelude.{◌≡◌, min, length};
@@ -13,8 +13,7 @@ use form::Outcome;
 use packing::pack;
 
 // The sizes of the graph: nodes, edges, ports, global sources, global targets, pairs.
-#[unsafe(no_mangle)]
-pub extern "C" fn ohg_read(src: &[u8], sizes: &mut [u8]) -> u64
+pub fn ohg_read(src: &[u8], sizes: &mut [u8]) -> u64
     ensures { Returns (read_call src.now (length sizes.old)) result sizes.old sizes.new }
 {
     let x = rewrite::read_sizes(src, sizes);
@@ -22,8 +21,7 @@ pub extern "C" fn ohg_read(src: &[u8], sizes: &mut [u8]) -> u64
 }
 
 // The graph read and written.
-#[unsafe(no_mangle)]
-pub extern "C" fn ohg_rewrite(src: &[u8], out: &mut [u8]) -> u64
+pub fn ohg_rewrite(src: &[u8], out: &mut [u8]) -> u64
     ensures { Returns (rewrite_call src.now (length out.old)) result out.old out.new }
 {
     let x = rewrite::rewrite(src, out);
@@ -31,8 +29,7 @@ pub extern "C" fn ohg_rewrite(src: &[u8], out: &mut [u8]) -> u64
 }
 
 // The graph with nothing in it.
-#[unsafe(no_mangle)]
-pub extern "C" fn ohg_empty(out: &mut [u8]) -> u64
+pub fn ohg_empty(out: &mut [u8]) -> u64
     ensures { Returns (empty_call (length out.old)) result out.old out.new }
 {
     let x = hypergraph::empty(out);
@@ -40,8 +37,7 @@ pub extern "C" fn ohg_empty(out: &mut [u8]) -> u64
 }
 
 // Nodes of these labels and nothing else.
-#[unsafe(no_mangle)]
-pub extern "C" fn ohg_discrete(labels: &[u8], out: &mut [u8]) -> u64
+pub fn ohg_discrete(labels: &[u8], out: &mut [u8]) -> u64
     ensures { Returns (discrete_call labels.now (length out.old)) result out.old out.new }
 {
     let x = hypergraph::discrete(labels, out);
@@ -49,8 +45,7 @@ pub extern "C" fn ohg_discrete(labels: &[u8], out: &mut [u8]) -> u64
 }
 
 // Nodes of these labels, each a global source and a global target.
-#[unsafe(no_mangle)]
-pub extern "C" fn ohg_identity(labels: &[u8], out: &mut [u8]) -> u64
+pub fn ohg_identity(labels: &[u8], out: &mut [u8]) -> u64
     ensures { Returns (identity_call labels.now (length out.old)) result out.old out.new }
 {
     let x = open_hypergraph::identity(labels, out);
@@ -58,8 +53,7 @@ pub extern "C" fn ohg_identity(labels: &[u8], out: &mut [u8]) -> u64
 }
 
 // One edge alone, its sources and targets the global ones.
-#[unsafe(no_mangle)]
-pub extern "C" fn ohg_singleton(label: u32, sources: &[u8], targets: &[u8], out: &mut [u8]) -> u64
+pub fn ohg_singleton(label: u32, sources: &[u8], targets: &[u8], out: &mut [u8]) -> u64
     ensures { Returns (singleton_call label sources.now targets.now (length out.old)) result out.old out.new }
 {
     let x = open_hypergraph::singleton(label, sources, targets, out);
@@ -67,8 +61,7 @@ pub extern "C" fn ohg_singleton(label: u32, sources: &[u8], targets: &[u8], out:
 }
 
 // One more node.
-#[unsafe(no_mangle)]
-pub extern "C" fn ohg_new_node(src: &[u8], label: u32, out: &mut [u8]) -> u64
+pub fn ohg_new_node(src: &[u8], label: u32, out: &mut [u8]) -> u64
     ensures { Returns (new_node_call src.now label (length out.old)) result out.old out.new }
 {
     let x = hypergraph::new_node(src, label, out);
@@ -76,14 +69,7 @@ pub extern "C" fn ohg_new_node(src: &[u8], label: u32, out: &mut [u8]) -> u64
 }
 
 // One more edge between nodes that are there.
-#[unsafe(no_mangle)]
-pub extern "C" fn ohg_new_edge(
-    src: &[u8],
-    label: u32,
-    sources: &[u8],
-    targets: &[u8],
-    out: &mut [u8],
-) -> u64
+pub fn ohg_new_edge(src: &[u8], label: u32, sources: &[u8], targets: &[u8], out: &mut [u8]) -> u64
     ensures { Returns (new_edge_call src.now label sources.now targets.now (length out.old)) result out.old out.new }
 {
     let x = operations::new_edge(src, label, sources, targets, out);
@@ -91,8 +77,7 @@ pub extern "C" fn ohg_new_edge(
 }
 
 // One more edge, with a new node for each of its sources and targets.
-#[unsafe(no_mangle)]
-pub extern "C" fn ohg_new_operation(
+pub fn ohg_new_operation(
     src: &[u8],
     label: u32,
     sources: &[u8],
@@ -106,8 +91,7 @@ pub extern "C" fn ohg_new_operation(
 }
 
 // One more pending pair.
-#[unsafe(no_mangle)]
-pub extern "C" fn ohg_unify(src: &[u8], v: u32, w: u32, out: &mut [u8]) -> u64
+pub fn ohg_unify(src: &[u8], v: u32, w: u32, out: &mut [u8]) -> u64
     ensures { Returns (unify_call src.now v w (length out.old)) result out.old out.new }
 {
     let x = hypergraph::unify(src, v, w, out);
@@ -115,8 +99,7 @@ pub extern "C" fn ohg_unify(src: &[u8], v: u32, w: u32, out: &mut [u8]) -> u64
 }
 
 // One more node, at the end of an edge's sources.
-#[unsafe(no_mangle)]
-pub extern "C" fn ohg_add_edge_source(src: &[u8], edge: u32, label: u32, out: &mut [u8]) -> u64
+pub fn ohg_add_edge_source(src: &[u8], edge: u32, label: u32, out: &mut [u8]) -> u64
     ensures { Returns (add_edge_source_call src.now edge label (length out.old)) result out.old out.new }
 {
     let x = ports::add_edge_source(src, edge, label, out);
@@ -124,8 +107,7 @@ pub extern "C" fn ohg_add_edge_source(src: &[u8], edge: u32, label: u32, out: &m
 }
 
 // One more node, at the end of an edge's targets.
-#[unsafe(no_mangle)]
-pub extern "C" fn ohg_add_edge_target(src: &[u8], edge: u32, label: u32, out: &mut [u8]) -> u64
+pub fn ohg_add_edge_target(src: &[u8], edge: u32, label: u32, out: &mut [u8]) -> u64
     ensures { Returns (add_edge_target_call src.now edge label (length out.old)) result out.old out.new }
 {
     let x = ports::add_edge_target(src, edge, label, out);
@@ -133,8 +115,7 @@ pub extern "C" fn ohg_add_edge_target(src: &[u8], edge: u32, label: u32, out: &m
 }
 
 // The graph without these edges.
-#[unsafe(no_mangle)]
-pub extern "C" fn ohg_delete_edges(src: &[u8], ids: &[u8], out: &mut [u8], room: &mut [u8]) -> u64
+pub fn ohg_delete_edges(src: &[u8], ids: &[u8], out: &mut [u8], room: &mut [u8]) -> u64
     ensures { Returns (delete_edges_call src.now ids.now (length out.old) (length room.old)) result out.old out.new }
 {
     let x = delete::delete_edges(src, ids, out, room);
@@ -142,8 +123,7 @@ pub extern "C" fn ohg_delete_edges(src: &[u8], ids: &[u8], out: &mut [u8], room:
 }
 
 // The graph without these nodes, and where each old node went.
-#[unsafe(no_mangle)]
-pub extern "C" fn ohg_delete_nodes(
+pub fn ohg_delete_nodes(
     src: &[u8],
     ids: &[u8],
     out: &mut [u8],
@@ -157,8 +137,7 @@ pub extern "C" fn ohg_delete_nodes(
 }
 
 // The graph with one node for each class of nodes that its pairs join, and where each old node went.
-#[unsafe(no_mangle)]
-pub extern "C" fn ohg_quotient(src: &[u8], out: &mut [u8], map: &mut [u8], room: &mut [u8]) -> u64
+pub fn ohg_quotient(src: &[u8], out: &mut [u8], map: &mut [u8], room: &mut [u8]) -> u64
     ensures { ReturnsMap (quotient_call src.now (length out.old) (length map.old) (length room.old)) result out.old out.new map.old map.new }
 {
     let x = quotient::quotient(src, out, map, room);
@@ -166,8 +145,7 @@ pub extern "C" fn ohg_quotient(src: &[u8], out: &mut [u8], map: &mut [u8], room:
 }
 
 // The graph spiderized at all its nodes.
-#[unsafe(no_mangle)]
-pub extern "C" fn ohg_spiderize(src: &[u8], out: &mut [u8], room: &mut [u8]) -> u64
+pub fn ohg_spiderize(src: &[u8], out: &mut [u8], room: &mut [u8]) -> u64
     ensures { Returns (spiderize_call src.now (length out.old) (length room.old)) result out.old out.new }
 {
     let x = spider::spiderize(src, out, room);
@@ -175,13 +153,7 @@ pub extern "C" fn ohg_spiderize(src: &[u8], out: &mut [u8], room: &mut [u8]) -> 
 }
 
 // The graph spiderized at these nodes.
-#[unsafe(no_mangle)]
-pub extern "C" fn ohg_spiderize_nodes(
-    src: &[u8],
-    ids: &[u8],
-    out: &mut [u8],
-    room: &mut [u8],
-) -> u64
+pub fn ohg_spiderize_nodes(src: &[u8], ids: &[u8], out: &mut [u8], room: &mut [u8]) -> u64
     ensures { Returns (spiderize_nodes_call src.now ids.now (length out.old) (length room.old)) result out.old out.new }
 {
     let x = spider::spiderize_nodes(src, ids, out, room);
@@ -189,8 +161,7 @@ pub extern "C" fn ohg_spiderize_nodes(
 }
 
 // Nodes that every directed cycle passes through.
-#[unsafe(no_mangle)]
-pub extern "C" fn ohg_cycle_breaking_nodes(src: &[u8], list: &mut [u8], room: &mut [u8]) -> u64
+pub fn ohg_cycle_breaking_nodes(src: &[u8], list: &mut [u8], room: &mut [u8]) -> u64
     ensures { Returns (cycle_breaking_nodes_call src.now (length list.old) (length room.old)) result list.old list.new }
 {
     let x = cycle::cycle_breaking_nodes(src, list, room);
@@ -198,8 +169,7 @@ pub extern "C" fn ohg_cycle_breaking_nodes(src: &[u8], list: &mut [u8], room: &m
 }
 
 // Nodes that every directed cycle passes through, none of them kept.
-#[unsafe(no_mangle)]
-pub extern "C" fn ohg_cycle_breaking_nodes_keeping(
+pub fn ohg_cycle_breaking_nodes_keeping(
     src: &[u8],
     kept: &[u8],
     list: &mut [u8],
@@ -212,8 +182,7 @@ pub extern "C" fn ohg_cycle_breaking_nodes_keeping(
 }
 
 // The same by the engine that needs less room and more time.
-#[unsafe(no_mangle)]
-pub extern "C" fn ohg_cycle_breaking_nodes_scanning(
+pub fn ohg_cycle_breaking_nodes_scanning(
     src: &[u8],
     kept: &[u8],
     list: &mut [u8],
@@ -226,8 +195,7 @@ pub extern "C" fn ohg_cycle_breaking_nodes_scanning(
 }
 
 // Why each node is one of these, or was freed.
-#[unsafe(no_mangle)]
-pub extern "C" fn ohg_reasons(src: &[u8], out: &mut [u8], room: &mut [u8]) -> u64
+pub fn ohg_reasons(src: &[u8], out: &mut [u8], room: &mut [u8]) -> u64
     ensures { Returns (reasons_call src.now (length out.old) (length room.old)) result out.old out.new }
 {
     let x = reasons::reasons(src, out, room);
@@ -235,8 +203,7 @@ pub extern "C" fn ohg_reasons(src: &[u8], out: &mut [u8], room: &mut [u8]) -> u6
 }
 
 // Whether there is no directed cycle.
-#[unsafe(no_mangle)]
-pub extern "C" fn ohg_no_loop(src: &[u8], room: &mut [u8]) -> u64
+pub fn ohg_no_loop(src: &[u8], room: &mut [u8]) -> u64
     ensures { result ≡ packed (no_loop_call src.now (length room.old)) }
 {
     let x = cycle::no_loop(src, room);
@@ -244,8 +211,7 @@ pub extern "C" fn ohg_no_loop(src: &[u8], room: &mut [u8]) -> u64
 }
 
 // A directed cycle, if there is one: its nodes and edges in their order, and how many steps the walk took that found it.
-#[unsafe(no_mangle)]
-pub extern "C" fn ohg_find_loop(src: &[u8], list: &mut [u8], room: &mut [u8]) -> u64
+pub fn ohg_find_loop(src: &[u8], list: &mut [u8], room: &mut [u8]) -> u64
     ensures { Returns (find_loop_call src.now (length list.old) (length room.old)) result list.old list.new }
 {
     let x = loops::find_loop(src, list, room);
@@ -253,8 +219,7 @@ pub extern "C" fn ohg_find_loop(src: &[u8], list: &mut [u8], room: &mut [u8]) ->
 }
 
 // Whether each node is fed exactly once, counting edge targets and global sources, and used exactly once, counting edge sources and global targets.
-#[unsafe(no_mangle)]
-pub extern "C" fn ohg_once_fed(src: &[u8], room: &mut [u8]) -> u64
+pub fn ohg_once_fed(src: &[u8], room: &mut [u8]) -> u64
     ensures { result ≡ packed (once_fed_call src.now (length room.old)) }
 {
     let x = once_fed::once_fed(src, room);
@@ -288,8 +253,7 @@ fn pack_built(x: Ending) -> u64
 }
 
 // The graph that building and deleting steps give, one after the other.
-#[unsafe(no_mangle)]
-pub extern "C" fn ohg_build(src: &[u8], steps: &[u8], out: &mut [u8], room: &mut [u8]) -> u64
+pub fn ohg_build(src: &[u8], steps: &[u8], out: &mut [u8], room: &mut [u8]) -> u64
     ensures { ReturnsBuilt (build_call src.now steps.now (length out.old) (length room.old)) result out.old out.new }
 {
     let x = build::build(src, steps, out, room);

@@ -1,4 +1,4 @@
-// The library above the port, as C calls it: the priced parts list of a drawing, and the report on a range of drawings.
+// The library above the port, which `price_c` exports to C: the priced parts list of a drawing, and the report on a range of drawings.
 #![tactic(auto)]
 
 pub mod range;
@@ -13,8 +13,7 @@ use packing::pack;
 pub const ROOM_PRICE_RANGE: usize = parts::ROOM_PRICE;
 
 // How many edges are of each kind of the catalogue, how many loop buffers the choice asks for, and the exact total.
-#[unsafe(no_mangle)]
-pub extern "C" fn ohg_price(src: &[u8], out: &mut [u8], room: &mut [u8]) -> u64
+pub fn ohg_price(src: &[u8], out: &mut [u8], room: &mut [u8]) -> u64
     ensures { Returns (price_call src.now (length out.old) (length room.old)) result out.old out.new }
 {
     let x = parts::price(src, out, room);

@@ -323,8 +323,7 @@ pub fn price_range(src: &[u8], out: &mut [u8], room: &mut [u8]) -> Outcome
 }
 
 // How many drawings of a slice were priced and how many refused by each number, how many parts and loop buffers they have, the exact sum, the dearest and the mean.
-#[unsafe(no_mangle)]
-pub extern "C" fn ohg_price_range(src: &[u8], out: &mut [u8], room: &mut [u8]) -> u64
+pub fn ohg_price_range(src: &[u8], out: &mut [u8], room: &mut [u8]) -> u64
     ensures { Returns (price_range_call src.now (length out.old) (length room.old)) result out.old out.new }
 {
     let x = price_range(src, out, room);

@@ -12,7 +12,6 @@ ghost use Rattle.text.specs.Text.{Printed};
 ghost use Rattle.range.specs.Glance.{range_text, range_room};
 
 use form::Step;
-use libc::{STDERR_FILENO, STDIN_FILENO, STDOUT_FILENO};
 use lines::put_report;
 use text::put_refusal;
 
@@ -48,24 +47,25 @@ fn room_buffer() -> [u8; price::ROOM_PRICE_RANGE]
 // Reads, prices and writes. No contract can say which bytes are read or written, so all that is to be decided is decided in `glance`.
 //
 // A slice that is longer than the buffer is told on standard error, and so is a read that fails; then there is no report: one on a part of the slice would be another. A write that fails is told there too.
-fn main() {
+fn main(rt: HostRuntime) -> std::io::Result<()> {
     let mut slice = four_mebibytes();
-    let n = io::read_full(STDIN_FILENO, &mut slice);
-    if !text::is_ended() {
-        if n < slice.len() {
-            io::write_all(STDERR_FILENO, b"range: standard input can't be read\n");
-        } else {
-            io::write_all(
-                STDERR_FILENO,
-                b"range: standard input is longer than 4 MiB\n",
-            );
+    let mut input = rt.stdin();
+    let Ok(n) = text::read_full(&mut input, &mut slice) else {
+        return rt.eprintln("range: standard input can't be read");
+    };
+    if n == slice.len() {
+        let Ok(ended) = text::is_ended(&mut input) else {
+            return rt.eprintln("range: standard input can't be read");
+        };
+        if !ended {
+            return rt.eprintln("range: standard input is longer than 4 MiB");
         }
-        return;
     }
     let mut room = room_buffer();
     let mut out = io::large_buffer();
     let k = glance(&slice[..n], &mut room, &mut out);
-    if !io::write_all(STDOUT_FILENO, &out[..k]) {
-        io::write_all(STDERR_FILENO, b"range: standard output can't be written\n");
+    if rt.write_all(&out[..k]).is_err() {
+        return rt.eprintln("range: standard output can't be written");
     }
+    Ok(())
 }

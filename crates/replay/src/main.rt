@@ -10,7 +10,6 @@ ghost use Rattle.std.specs.Prelude.{◌+◌, ◌<◌, ◌≤◌, ◌≡◌, true
 ghost use Rattle.replay.specs.Due.{filled, Due};
 
 use calls::returns_due;
-use libc::STDOUT_FILENO;
 use list::{LOST, Record, bytes_of, first_at, record_at};
 
 // What every answer buffer is filled with before a call.
@@ -28,7 +27,7 @@ struct Tally {
 
 impl Tally {
     // One call more, told by its number, from 1 on, where it is one of the first that differ.
-    fn counted(self, agrees: bool) -> Self
+    fn counted(self, agrees: bool, to: &impl Print) -> Self
         requires { (self.differ ≤ self.calls) × (self.calls < 18446744073709551615) }
         ensures { (result.differ ≡ self.differ + cond agrees 0 1) × (result.differ ≤ result.calls) × (result.calls ≡ self.calls + 1) }
     {
@@ -38,7 +37,7 @@ impl Tally {
             return Tally { calls, differ };
         }
         if differ < TOLD {
-            tell_call(calls);
+            tell_call(calls, to);
         }
         Tally {
             calls,
@@ -47,17 +46,15 @@ impl Tally {
     }
 }
 
-fn tell_call(call: u64) {
-    io::write_all(STDOUT_FILENO, b"call ");
-    io::print_decimal(STDOUT_FILENO, call);
-    io::write_all(STDOUT_FILENO, b" differs\n");
+// A line that can't be written is left out: it changes no count, and `tell` will say that nothing more can be written.
+fn tell_call(call: u64, to: &impl Print) {
+    let _ = println!(to; "call {call} differs");
 }
 
-fn tell(tally: Tally) {
-    io::print_decimal(STDOUT_FILENO, tally.calls);
-    io::write_all(STDOUT_FILENO, b" calls replayed, ");
-    io::print_decimal(STDOUT_FILENO, tally.differ);
-    io::write_all(STDOUT_FILENO, b" differ\n");
+fn tell(tally: Tally, to: &impl Print) -> std::io::Result<()> {
+    let calls = tally.calls;
+    let differ = tally.differ;
+    println!(to; "{calls} calls replayed, {differ} differ")
 }
 
 fn fill(buffer: &mut [u8])
@@ -114,19 +111,19 @@ fn agrees(list: &[u8], recorded: Record, out: &mut [u8], map: &mut [u8], room: &
 }
 
 // Replays the list to its end, or to where it is broken: what is broken counts as one call that differs.
-fn replay(list: &[u8], out: &mut [u8], map: &mut [u8], room: &mut [u8]) -> Tally {
+fn replay(list: &[u8], out: &mut [u8], map: &mut [u8], room: &mut [u8], to: &impl Print) -> Tally {
     let mut tally = Tally {
         calls: 0,
         differ: 0,
     };
     let mut at = first_at(list);
     if at == LOST {
-        return tally.counted(false);
+        return tally.counted(false, to);
     }
     while at < list.len() {
         let record = record_at(list, at);
         let next = record.next;
-        tally = tally.counted(agrees(list, record, out, map, room));
+        tally = tally.counted(agrees(list, record, out, map, room), to);
         at = next;
     }
     tally
@@ -160,11 +157,13 @@ fn map_buffer() -> [u8; 131072]
     [0; 131072]
 }
 
-fn main() {
+// Reads, replays and tells. A read that fails ends it with the error, since the calls that were read are not all of the list.
+fn main(rt: HostRuntime) -> std::io::Result<()> {
     let mut list = mebibyte();
-    let n = io::read_full(0, &mut list);
+    let n = text::read_full(&mut rt.stdin(), &mut list)?;
     let mut out = form_buffer();
     let mut map = map_buffer();
     let mut room = room_buffer();
-    tell(replay(&list[..n], &mut out, &mut map, &mut room));
+    let tally = replay(&list[..n], &mut out, &mut map, &mut room, &rt);
+    tell(tally, &rt)
 }

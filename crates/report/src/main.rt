@@ -11,7 +11,6 @@ ghost use Rattle.report.specs.Report.{report_text, report_room, list_room};
 ghost use Rattle.text.specs.Text.{Printed};
 
 use form::{Outcome, Reading};
-use libc::{STDERR_FILENO, STDIN_FILENO, STDOUT_FILENO};
 use lines::put_drawing;
 use text::put_refusal;
 
@@ -46,20 +45,17 @@ fn report(src: &[u8], list: &mut [u8], room: &mut [u8], out: &mut [u8]) -> usize
 // the whole with the same number; and where nothing does, both are too long, which is 5.
 //
 // A read that fails is told on standard error, and then there is no report: `refused 1` or `refused 5` would blame the drawing. A write that fails is told there too.
-fn main() {
+fn main(rt: HostRuntime) -> std::io::Result<()> {
     let mut form = io::large_buffer();
-    let n = io::read_full(STDIN_FILENO, &mut form);
-    if n < form.len() {
-        if !text::is_ended() {
-            io::write_all(STDERR_FILENO, b"report: standard input can't be read\n");
-            return;
-        }
-    }
+    let Ok(n) = text::read_full(&mut rt.stdin(), &mut form) else {
+        return rt.eprintln("report: standard input can't be read");
+    };
     let mut list = io::large_buffer();
     let mut room = room_buffer();
     let mut out = io::large_buffer();
     let k = report(&form[..n], &mut list, &mut room, &mut out);
-    if !io::write_all(STDOUT_FILENO, &out[..k]) {
-        io::write_all(STDERR_FILENO, b"report: standard output can't be written\n");
+    if rt.write_all(&out[..k]).is_err() {
+        return rt.eprintln("report: standard output can't be written");
     }
+    Ok(())
 }

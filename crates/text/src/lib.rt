@@ -1,13 +1,13 @@
-// What the programs share: texts put into lent bytes one after the other, and whether the input has ended. Each function that puts something answers the place after it,
+// What the programs share: texts put into lent bytes one after the other, and reading as much of the input as a buffer holds. Each function that puts something answers the place after it,
 // and bounds it so that the next one has room: a number takes at most 20 bytes.
 #![tactic(auto)]
 
-ghost use Rattle.std.specs.Prelude.{◌++◌, ◌+◌, ◌≤◌, length};
+ghost use Rattle.std.specs.Prelude.{◌++◌, ◌+◌, ◌≤◌, length, IfOk};
 ghost use Rattle.io.specs.Counts.{IsPrefixLen};
 ghost use Rattle.text.specs.Text.{Printed, decimal, refused_line};
 
 use form::Refusal;
-use libc::STDIN_FILENO;
+use std::io::Read;
 
 // Bytes as they are.
 pub fn put_text(out: &mut [u8], at: usize, text: &[u8]) -> usize
@@ -50,8 +50,24 @@ pub fn put_refusal(out: &mut [u8], x: Refusal) -> usize
     put_text(out, next, b"\n")
 }
 
-// Whether standard input has ended, so that a read before this one stopped for no other reason.
-pub fn is_ended() -> bool {
+// Reads until buf is full or the input ends, and answers how many bytes it put at the start of buf. A read that fails, and one that a signal interrupts, ends it with the error.
+pub fn read_full<R: Read>(input: &mut R, buf: &mut [u8]) -> std::io::Result<usize>
+    ensures { IfOk result (λ n. IsPrefixLen n buf.new) }
+{
+    let mut done = 0;
+    while done < buf.len() {
+        let n = input.read(&mut buf[done..])?;
+        if n == 0 {
+            break;
+        }
+        done += n;
+    }
+    Ok(done)
+}
+
+// Whether the input has ended. Where it has not, a byte of it is gone.
+pub fn is_ended<R: Read>(input: &mut R) -> std::io::Result<bool> {
     let mut spare = [0u8; 1];
-    libc::read(STDIN_FILENO, &mut spare) == 0
+    let n = input.read(&mut spare)?;
+    Ok(n == 0)
 }
