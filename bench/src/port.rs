@@ -104,7 +104,7 @@ static MEASURED: OnceLock<[Build; 2]> = OnceLock::new();
 /// repository's root.
 pub fn open_measured() -> Result<(), String> {
     let (folder, command) = match env::consts::ARCH {
-        "x86_64" => ("target/staticlib", "rt staticlib"),
+        "x86_64" => ("target/staticlib", "tools/archive"),
         _ => ("target/native", "tools/native-archive"),
     };
     let folder = env::var_os("OHG_LIB_DIR").unwrap_or(folder.into());

@@ -9,7 +9,7 @@ fn main() {
     println!("cargo:rerun-if-env-changed=OHG_LIB_DIR");
     let package = env::var_os("CARGO_MANIFEST_DIR").expect("cargo sets CARGO_MANIFEST_DIR");
     let (folder, command) = match env::var("CARGO_CFG_TARGET_ARCH").as_deref() {
-        Ok("x86_64") => ("target/staticlib", "rt staticlib"),
+        Ok("x86_64") => ("target/staticlib", "tools/archive"),
         _ => ("target/native", "tools/native-archive"),
     };
     let folder = env::var_os("OHG_LIB_DIR").unwrap_or(folder.into());

@@ -1,7 +1,7 @@
 //! The port, called in a process of its own.
 //!
 //! Its archive is code for x86-64, whatever this program is compiled for; `caller.c` says how the two talk. Where this
-//! machine is another one, the toolchain's emulator runs the other process.
+//! machine is another one, an emulator runs the other process.
 
 use std::env;
 use std::fs;
@@ -65,7 +65,7 @@ impl Port {
         let tools = tools()?;
         let mut command = vec![linked(&tools, &functions)?];
         if env::consts::ARCH != "x86_64" {
-            command.insert(0, tools.join("qemu-x86_64"));
+            command.insert(0, emulator());
         }
         let process = Process::start(&command)?;
         Ok(Port {
@@ -174,7 +174,14 @@ impl Drop for Process {
     }
 }
 
-/// The folder of the toolchain's `clang`, `ld.lld` and, where it needs one, `qemu-x86_64`.
+/// What runs code for x86-64 where this machine is another one.
+fn emulator() -> PathBuf {
+    env::var_os("OHG_EMULATOR")
+        .unwrap_or("qemu-x86_64".into())
+        .into()
+}
+
+/// The folder of the toolchain's `clang` and `ld.lld`.
 fn tools() -> Result<PathBuf, String> {
     if let Some(folder) = env::var_os("OHG_TOOLS") {
         return Ok(folder.into());
@@ -182,9 +189,9 @@ fn tools() -> Result<PathBuf, String> {
     let output = Command::new("rt").arg("doc").output();
     let output = output.map_err(|e| format!("rt: {e}; put it on the PATH or set OHG_TOOLS"))?;
     let guide = PathBuf::from(String::from_utf8_lossy(&output.stdout).trim());
-    let kit = guide.parent().and_then(Path::parent);
+    let kit = guide.parent();
     let kit = kit.ok_or("`rt doc` names no file of the kit; set OHG_TOOLS")?;
-    Ok(kit.join("on").join(env::consts::ARCH).join("toolchain/bin"))
+    Ok(kit.join("toolchain/bin"))
 }
 
 /// Compiles `caller.c` with a table of the functions, links it with the archives, and says where it is.
@@ -195,7 +202,7 @@ fn linked(tools: &Path, functions: &[&str]) -> Result<PathBuf, String> {
     for (name, archive) in &archives {
         if !archive.is_file() {
             return Err(format!(
-                "no {}: run `rt staticlib {name}` first",
+                "no {}: run `tools/archive {name}` first",
                 archive.display()
             ));
         }
