@@ -10,7 +10,7 @@ use lib.ListN.{length, get_or, drop, length-drop}
 use lib.Seq.{drop-drop}
 use borrow.Author.Tests.{le-leb, lt-ltb, le-ltb, lt-leb}
 use Rattle.le.specs.Le.{numbers}
-use Rattle.graph.specs.Answer.{Answer, refused, answered, refusal}
+use Rattle.graph.specs.Answer.{Answer, refused, answered, refusal, ◌else◌, ◌>>◌}
 use Rattle.form.specs.Form.{refusal_of, meant_by}
 use Rattle.form.specs.declared.Refusal.{Refusal}
 use Rattle.steps.specs.Steps.{Step, head_numbers, list_numbers, step_of, read_step}

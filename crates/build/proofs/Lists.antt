@@ -1,7 +1,7 @@
 -- The lists of a step: rows of the list of steps, and what is asked of their ids.
 -- Assumes nothing.
 use mathlib.Core.Logic.{inr}
-use mathlib.Core.List.{List, ◌∷◌}
+use mathlib.Core.List.{List, [], ◌∷◌}
 use mathlib.Core.Path.{◌≡◌, refl, sym, ap, ◌∙◌}
 use Prim.Native.Nat.{ℕ, zero, suc, ◌+◌, ◌*◌, ◌/◌, ◌%◌, ◌≤◌, ◌<◌}
 use native.Mathlib.Nat.{div-eq_of_eq-mul_left}
@@ -13,6 +13,7 @@ use borrow.Author.Tests.{eq-eqb, ne_eqb}
 use Rattle.le.specs.Le.{number, number_at, numbers}
 use Rattle.le.specs.Rows.{Holds, row_at, span}
 use Rattle.le.proofs.Places.{get_d_numbers, number_drop}
+use Rattle.graph.specs.Answer.{◌else◌, ◌>>◌}
 use Rattle.graph.specs.Calls.{id_list}
 use Rattle.graph.specs.Graph.{Format}
 use Rattle.steps.specs.Steps.{head_numbers}

@@ -1,13 +1,13 @@
 -- The steps one after the other: what is left of them, from the graph that was reached.
 -- Assumes nothing.
-use mathlib.Core.List.{List, ◌∷◌}
+use mathlib.Core.List.{List, [], ◌∷◌}
 use mathlib.Core.Path.{◌≡◌, refl, sym, ap, ◌∙◌, subst}
 use Prim.Native.Nat.{ℕ, zero, suc, ◌+◌, ◌≤◌, ◌<◌}
 use native.Mathlib.Numerals.{add-one}
 use native.Mathlib.Omega.{arith}
 use lib.ListN.{length, get_or, drop}
 use lib.Seq.{drop-cons, drop-nil}
-use Rattle.graph.specs.Answer.{Answer, refused, answered}
+use Rattle.graph.specs.Answer.{Answer, refused, answered, ◌>>=◌}
 use Rattle.graph.specs.Graph.{Graph}
 use Rattle.form.specs.Form.{refusal_of, meant_by}
 use Rattle.form.specs.declared.Refusal.{Refusal}

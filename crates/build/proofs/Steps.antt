@@ -8,7 +8,7 @@ use native.Mathlib.Omega.{arith}
 use lib.Dec.{leb}
 use borrow.Author.Tests.{leb-true, le-leb}
 use Rattle.graph.specs.Answer as answer
-use Rattle.graph.specs.Answer.{Answer, refused, answered, refusal}
+use Rattle.graph.specs.Answer.{Answer, refused, answered, refusal, ◌else◌, ◌>>=◌, ◌>>◌}
 use Rattle.graph.specs.Graph.{Graph, ports, largest, sizes_fit, counts_fit, within_limits, Within}
 use Rattle.graph.specs.Calls.{known}
 use Rattle.graph.proofs.Steps.{stops, goes, passed, same_answer}

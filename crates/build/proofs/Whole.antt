@@ -5,7 +5,7 @@ use mathlib.Core.Path.{◌≡◌, refl, sym, ap, ◌∙◌, subst}
 use Prim.Native.Nat.{ℕ, ◌≤◌, ◌<◌}
 use native.Mathlib.Omega.{arith}
 use borrow.Author.Tests.{le-leb, lt-leb}
-use Rattle.graph.specs.Answer.{Answer, refused, answered, refusal, Result}
+use Rattle.graph.specs.Answer.{Answer, refused, answered, refusal, Result, ◌else◌, ◌>>=◌}
 use Rattle.graph.specs.Calls.{on_nothing}
 use Rattle.graph.specs.Graph.{Graph, ports}
 use Rattle.graph.specs.Versions.{fitting}
@@ -17,7 +17,7 @@ use Rattle.form.specs.declared.Sizes.{Sizes}
 use Rattle.write.specs.Write.{counted_as, fitted}
 use Rattle.steps.specs.Steps.{steps_in}
 use Rattle.steps.specs.Calls as calls
-use Rattle.steps.specs.Calls.{Built, stopped, built, ◌at_step◌, on_steps, built_in_room}
+use Rattle.steps.specs.Calls.{Built, stopped, built, ◌at_step◌, ◌then◌, on_steps, built_in_room}
 use Rattle.ledger.specs.Ledger.{drawing, Draws}
 use Rattle.build.specs.Turns.{Leads, GivesBuilt}
 use Rattle.build.specs.declared.Ending.{Ending}

@@ -1,9 +1,9 @@
 -- The prices worked by hand hold of the definitions, by computation.
 -- Assumes nothing.
 use mathlib.Core.Path.{◌≡◌, refl}
-use mathlib.Core.List.{◌∷◌, map}
+use mathlib.Core.List.{[], ◌∷◌, map}
 use Rattle.graph.specs.Form.{encode}
-use Rattle.graph.specs.Answer.{refused, refusal}
+use Rattle.graph.specs.Answer.{refused, refusal, ◌else◌, ◌>>=◌, ◌>>◌}
 use Rattle.graph.specs.Read.{read_version, read_counts, read_edge, read_lists, read_body, read_in}
 use Rattle.graph.specs.Versions.{format_numbered, fitting_sizes, in_version, read_fitting, read}
 use Rattle.graph.specs.Calls.{unpaired}

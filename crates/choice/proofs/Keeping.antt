@@ -3,7 +3,7 @@
 -- Assumes nothing.
 use mathlib.Core.Path.{◌≡◌, refl, sym, ap, ◌∙◌, subst}
 use mathlib.Core.Bool.{Bool, true, false, ◌&&◌, not, cond}
-use mathlib.Core.List.{List}
+use mathlib.Core.List.{List, []}
 use mathlib.Core.Logic.{◌⊎◌, inl, inr, ◌↔◌}
 use Prim.Native.Nat.{ℕ, zero, suc, ◌+◌, ◌≤◌, ◌<◌}
 use native.Mathlib.Nat.{eq-zero-or-pos, le_of_eq}
@@ -11,7 +11,7 @@ use native.Mathlib.Omega.{arith}
 use lib.Dec.{T, ltb}
 use lib.ListN.{length, get_or-replicate}
 use borrow.Author.Tests.{lt-ltb}
-use Rattle.graph.specs.Answer.{refused, answered, refusal, ◌>>=◌}
+use Rattle.graph.specs.Answer.{refused, answered, refusal, ◌else◌, ◌>>=◌, ◌>>◌}
 use Rattle.graph.proofs.Steps.{never, same_answer, stops}
 use Rattle.graph.proofs.Refuses.{Refuses, answer_by, refusal_by, step_by}
 use Rattle.choice.specs.Arcs.{Arc, In, Set, has, vertices, without, size, passing, outside, Subset, Stable}

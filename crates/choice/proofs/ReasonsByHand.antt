@@ -3,6 +3,7 @@
 use mathlib.Core.Path.{◌≡◌, refl}
 use mathlib.Core.List.{map}
 use Rattle.graph.specs.Form.{encode}
+use Rattle.graph.specs.Answer.{◌else◌, ◌>>=◌, ◌>>◌}
 use Rattle.graph.specs.Read.{read_version, read_counts, read_edge, read_lists, read_body, read_in}
 use Rattle.graph.specs.Versions.{format_numbered, fitting_sizes, in_version, read_fitting, read}
 use Rattle.graph.specs.Calls.{unpaired, fit, in_work_room}

@@ -1,7 +1,7 @@
 -- T-12 of stored bytes: what the call answers. Vertex numbers fit the width of each version.
 -- Assumes nothing.
 use mathlib.Core.Path.{◌≡◌, refl, sym, ◌∙◌, subst}
-use mathlib.Core.List.{List, append-nil}
+use mathlib.Core.List.{List, [], append-nil}
 use mathlib.Core.Logic.{◌⊎◌, inl, inr}
 use Prim.Native.Nat.{ℕ, zero, ◌+◌, ◌^◌, ◌≤◌}
 use native.Mathlib.Omega.{arith}

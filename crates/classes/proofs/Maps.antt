@@ -9,7 +9,7 @@ use lib.ListN.{length, get_or}
 use Rattle.le.specs.Le.{Below}
 use Rattle.le.specs.Rows.{span}
 use Rattle.le.specs.declared.Row.{Row}
-use Rattle.graph.specs.Answer.{refused, answered, refusal}
+use Rattle.graph.specs.Answer.{refused, answered, refusal, ◌else◌, ◌>>◌}
 use Rattle.graph.specs.Delete.{new_id}
 use Rattle.graph.specs.Graph.{Graph}
 use Rattle.graph.specs.Lists.{range, paired, flat, same}

@@ -1,6 +1,6 @@
 -- What the choice comes to once the engine has flagged its nodes: the list does not fit, or it is written.
 -- Assumes nothing.
-use mathlib.Core.List.{List}
+use mathlib.Core.List.{List, []}
 use mathlib.Core.Path.{◌≡◌, refl, sym, ap, ◌∙◌}
 use Prim.Native.Nat.{ℕ, ◌+◌, ◌*◌, ◌≤◌, ◌<◌}
 use native.Mathlib.Omega.{arith}
@@ -21,7 +21,7 @@ use Rattle.form.specs.declared.Refusal as form
 use Rattle.form.specs.declared.Step.TheVariants as step
 use Rattle.form.specs.declared.Step.{Step}
 use Rattle.form.specs.declared.Outcome.TheVariants as call
-use Rattle.graph.specs.Answer.{Answer, refused, answered, Refusal, ◌>>=◌}
+use Rattle.graph.specs.Answer.{Answer, refused, answered, Refusal, ◌else◌, ◌>>=◌, ◌>>◌}
 use Rattle.graph.specs.Calls.{fit}
 use Rattle.graph.specs.Graph.{Graph, Format}
 use Rattle.le.specs.Le.{row}

@@ -7,7 +7,7 @@ use native.Mathlib.Omega.{arith}
 use lib.Dec.{leb}
 use lib.ListN.{length}
 use borrow.Author.Tests.{leb-true}
-use Rattle.graph.specs.Answer.{Answer, refused, answered, Result, lay, laid, laid_map, ◌else◌, refusal}
+use Rattle.graph.specs.Answer.{Answer, refused, answered, Result, lay, laid, laid_map, ◌else◌, ◌>>◌, refusal}
 use Rattle.graph.specs.Calls.{in_work_room}
 use Rattle.graph.proofs.Steps.{passed}
 use Rattle.graph.specs.Answer as answer

@@ -1,6 +1,6 @@
 -- Bytes that were read: what stands in their rows, and at each edge of a walk.
 -- Assumes nothing.
-use mathlib.Core.List.{List, ◌++◌, map, append-nil, append_assoc}
+use mathlib.Core.List.{List, [], ◌++◌, map, append-nil, append_assoc}
 use mathlib.Core.Logic.{inr}
 use mathlib.Core.Path.{◌≡◌, refl, sym, ap, ◌∙◌, subst}
 use Prim.Native.Nat.{ℕ, ◌+◌, ◌*◌, ◌≤◌, ◌<◌}
@@ -18,7 +18,7 @@ use Rattle.le.proofs.Rows.{wide_some, wide_low, holds_less, length_span, span_at
 use Rattle.graph.specs.Answer.{Answer, refused, answered, reply}
 use Rattle.graph.specs.Build.{empty}
 use Rattle.graph.specs.Form.{encode, body, label_row, edge_row, edge_start, no_edge, header_bytes}
-use Rattle.graph.specs.Graph.{Edge, Graph, form1, largest, WellFormed, Usable, Format, edge_entries}
+use Rattle.graph.specs.Graph.{Edge, Graph, counts, ports, form1, largest, WellFormed, Usable, Format, edge_entries}
 use Rattle.graph.specs.Lists.{joined, flat}
 use Rattle.graph.specs.Versions as versions
 use Rattle.graph.specs.Versions.{read}

@@ -2,6 +2,7 @@
 -- Assumes nothing.
 use mathlib.Core.Path.{◌≡◌, refl}
 use mathlib.Core.List.{map}
+use Rattle.graph.specs.Answer.{◌else◌, ◌>>=◌, ◌>>◌}
 use Rattle.graph.specs.Build.{discrete, new_edge, new_operation, unify, add_edge_target}
 use Rattle.graph.specs.Calls.{known, label_list, id_list, fit, made, on_nothing, on_graph, discrete_step, new_edge_step, new_operation_step, unify_step, add_edge_target_step}
 use Rattle.graph.specs.Damage.{refusal_of, damaged, calls}

@@ -1,9 +1,9 @@
 -- T-05 and T-01 by hand, by computation: what reading and calls give on forms of both versions.
 -- Assumes nothing.
 use mathlib.Core.Path.{◌≡◌, refl}
-use mathlib.Core.List.{◌∷◌, map}
+use mathlib.Core.List.{[], ◌∷◌, map}
 use lib.ListN.{replicate}
-use Rattle.graph.specs.Answer.{refused, answered, ◌carrying◌, writing}
+use Rattle.graph.specs.Answer.{refused, answered, ◌carrying◌, writing, ◌else◌, ◌>>=◌, ◌>>◌}
 use Rattle.graph.specs.Build.{new_node}
 use Rattle.graph.specs.Calls.{id_list, fit, in_work_room, made, on_graph, new_node_step, new_node_call, nodes_deleted, nodes_merged, quotient_call}
 use Rattle.graph.specs.Delete.{delete_nodes, node_map}

@@ -1,7 +1,7 @@
 -- Deleting and merging never pass a limit: what is left is no larger than what was there, so none of these calls gives 9.
 -- Assumes nothing.
 use mathlib.Core.Bool.{Bool, true, false, false≢true, not, cond, ◌&&◌}
-use mathlib.Core.List.{List, ◌∷◌, ◌++◌, map}
+use mathlib.Core.List.{List, [], ◌∷◌, ◌++◌, map}
 use mathlib.Core.Path.{◌≡◌, sym, ap, ◌∙◌, subst}
 use Prim.Native.Nat.{ℕ, suc, ◌≤◌}
 use native.Mathlib.Omega.{arith}

@@ -10,7 +10,7 @@ use native.Mathlib.Nat.{mul-le-mul_right}
 use native.Mathlib.Omega.{arith}
 use lib.ListN.{length}
 use borrow.Author.Tests.{le-leb, lt-leb}
-use Rattle.graph.specs.Answer.{Refusal, refused, answered, refusal, ◌>>=◌}
+use Rattle.graph.specs.Answer.{Refusal, refused, answered, refusal, ◌else◌, ◌>>=◌, ◌>>◌}
 use Rattle.graph.specs.Calls.{fit, room_quotient, nodes_merged, quotient_call}
 use Rattle.graph.specs.Form.{encode}
 use Rattle.graph.specs.Graph.{Graph, Format, form1, form2, largest, ports, within_limits, Proper, WellFormed}

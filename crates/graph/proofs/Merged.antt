@@ -1,7 +1,7 @@
 -- 02, T-01: what merging promises. Its refusals are in `quotient_11` and `quotient_0`; laws of calls that merge are in MergeCall, Spidered, Answers and Refusals.
 -- Assumes nothing.
 use mathlib.Core.Bool.{Bool, true, false, cond, ◌&&◌}
-use mathlib.Core.List.{List, ◌∷◌, ◌++◌, map, Memᴰ}
+use mathlib.Core.List.{List, [], ◌∷◌, ◌++◌, map, Memᴰ}
 use mathlib.Core.Logic.{◌↔◌}
 use mathlib.Core.Path.{◌≡◌, refl, sym, ap, ◌∙◌, subst}
 use Prim.Native.Nat.{ℕ, zero, suc, ◌+◌, ◌^◌, ◌≤◌, ◌<◌}
@@ -11,10 +11,10 @@ use lib.Dec.{eqb, ltb}
 use lib.ListN.{length, length-map, get_or, length-append}
 use lib.Seq.{ext_get_or}
 use borrow.Author.Tests.{eqb-true, eqb-false, eq-eqb, not-false, ltb-true, ltb-false}
-use Rattle.graph.specs.Answer.{refused, answered, refusal}
+use Rattle.graph.specs.Answer.{refused, answered, refusal, ◌else◌, ◌>>◌}
 use Rattle.graph.specs.Build.{with_pairs}
 use Rattle.graph.specs.Delete.{new_id, remaining}
-use Rattle.graph.specs.Graph.{Edge, Graph, Format, ports, edge_entries, Proper, WellFormed}
+use Rattle.graph.specs.Graph.{Edge, Graph, Format, counts, ports, edge_entries, Proper, WellFormed}
 use Rattle.graph.specs.Lists.{range, flat, same}
 use Rattle.graph.specs.Merge.{Joined, Least, Merged, leaders, classes, absorbed, numbered, looked, looked_edge, merged, agreeing, quotient}
 use Rattle.le.specs.Le.{Below}

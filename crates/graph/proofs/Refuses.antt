@@ -1,7 +1,7 @@
 -- What holds of every refusal that a step or a call can give: it holds of those of its tests and steps.
 -- Assumes nothing.
 use mathlib.Core.Bool.{Bool, true, false, false≢true, ◌||◌, and-eq-true_iff}
-use mathlib.Core.List.{List, ◌∷◌}
+use mathlib.Core.List.{List, [], ◌∷◌}
 use mathlib.Core.Path.{◌≡◌, refl, sym, ap, ◌∙◌, subst}
 use Prim.Native.Nat.{ℕ}
 use lib.Dec.{eqb}

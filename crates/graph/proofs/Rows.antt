@@ -1,6 +1,6 @@
 -- A stored form as a header and two rows of numbers, all labels and then all counts and ids, and the walk over the edges in the second.
 -- Assumes nothing.
-use mathlib.Core.List.{List, ◌∷◌, ◌++◌, append_assoc, append-nil, map}
+use mathlib.Core.List.{List, [], ◌∷◌, ◌++◌, append_assoc, append-nil, map}
 use mathlib.Core.Path.{◌≡◌, refl, sym, ap, ◌∙◌}
 use Prim.Native.Nat.{ℕ, suc, ◌+◌, ◌*◌, ◌^◌, ◌<◌}
 use native.Mathlib.Nat.{add-zero}

@@ -10,7 +10,7 @@ use native.Mathlib.Omega.{arith}
 use lib.Dec.{eqb, leb}
 use lib.ListN.{length}
 use borrow.Author.Tests.{leb-true, eqb-true, eq-eqb, ne_eqb, le-leb}
-use Rattle.graph.specs.Answer.{◌carrying◌, Answer, refused, answered, refusal, ◌>>=◌}
+use Rattle.graph.specs.Answer.{◌carrying◌, Answer, refused, answered, refusal, ◌else◌, ◌>>=◌, ◌>>◌}
 use Rattle.graph.specs.Form.{encode, form_bytes}
 use Rattle.graph.specs.Graph.{Graph, Counts, counts, ports, Format, form1, form2, largest, counts_fit, sizes_fit, within_limits, Proper, Within, WellFormed, Usable}
 use Rattle.graph.specs.Read.{read_version, read_in, read_as}

@@ -1,6 +1,6 @@
 -- The labels, the body and the sizes of each graph that is built, in terms of those of the graph from which it is built.
 -- Assumes nothing.
-use mathlib.Core.List.{List, ◌∷◌, ◌++◌, map, append_assoc, append-nil}
+use mathlib.Core.List.{List, [], ◌∷◌, ◌++◌, map, append_assoc, append-nil}
 use mathlib.Core.Path.{◌≡◌}
 use Prim.Native.Nat.{ℕ, ◌+◌}
 use lib.ListN.{length-append}

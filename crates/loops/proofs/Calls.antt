@@ -1,6 +1,6 @@
 -- What the loop comes to once it is laid: the list does not fit, or it is written.
 -- Assumes nothing.
-use mathlib.Core.List.{List}
+use mathlib.Core.List.{List, []}
 use mathlib.Core.Path.{◌≡◌, sym, ap, ◌∙◌}
 use Prim.Native.Nat.{ℕ, ◌+◌, ◌*◌, ◌≤◌, ◌<◌}
 use native.Mathlib.Omega.{arith}
@@ -11,6 +11,7 @@ use Rattle.choice.specs.Calls.{showing}
 use Rattle.form.specs.Form.{Gives}
 use Rattle.form.specs.declared.Outcome.TheVariants as call
 use Rattle.form.proofs.Answers.{gives_refused, gives_done}
+use Rattle.graph.specs.Answer.{◌else◌, ◌>>=◌, ◌>>◌}
 use Rattle.graph.specs.Calls.{fit}
 use Rattle.graph.specs.Graph.{Format}
 use Rattle.graph.proofs.Places.{sets_lay}

@@ -1,6 +1,6 @@
 -- Turns of the loops over a row of ids: what was read is the row's next number, and what is done with it comes after what was done with those before it.
 -- Assumes nothing.
-use Rattle.std.proofs.Common.{◌≡◌, ℕ, ◌+◌, ◌-◌, ◌%◌, ◌<◌, ◌≤◌, Bool, true, false, ◌||◌, List, ◌∷◌, ◌++◌, get_or, drop, set, sym, refl, ap, ◌∙◌, subst, add-one, arith, ne_eqb}
+use Rattle.std.proofs.Common.{◌≡◌, ℕ, ◌+◌, ◌-◌, ◌%◌, ◌<◌, ◌≤◌, Bool, true, false, ◌||◌, List, [], ◌∷◌, ◌++◌, get_or, drop, set, sym, refl, ap, ◌∙◌, subst, add-one, arith, ne_eqb}
 use Rattle.le.specs.Le.{Below}
 use Rattle.le.specs.Rows.{entry, span}
 use Rattle.le.specs.declared.Row.{Row}

@@ -2,7 +2,7 @@
 -- Assumes nothing.
 use mathlib.Core.Path.{◌≡◌, refl, sym, ap, ◌∙◌, subst}
 use mathlib.Core.Bool.{Bool, true, false, cond, true≢false}
-use mathlib.Core.List.{List, ◌++◌}
+use mathlib.Core.List.{List, [], ◌++◌}
 use mathlib.Core.Logic.{◌⊎◌, inl, inr, ◌↔◌}
 use Prim.Native.Nat.{ℕ, ◌*◌, ◌^◌, ◌/◌, ◌%◌, ◌≤◌, min}
 use native.Mathlib.Omega.{arith}
@@ -11,7 +11,7 @@ use lib.ListN.{length, take, drop}
 use borrow.Author.Tests.{eqb-true, eq-eqb}
 use Rattle.le.specs.Le.{Below, numbers, row}
 use Rattle.le.proofs.Numbers.{below_widen, numbers_row, length_row}
-use Rattle.graph.specs.Answer.{Refusal, Answer, refused, answered, Result, refusal, laid}
+use Rattle.graph.specs.Answer.{Refusal, Answer, refused, answered, Result, refusal, laid, ◌else◌, ◌>>◌}
 use Rattle.graph.specs.Calls.{id_list, spiderize_nodes_call}
 use Rattle.graph.specs.Graph.{Graph, Format, form1, form2}
 use Rattle.graph.specs.Read.{read_version}

@@ -8,7 +8,7 @@ use lib.ListN.{length, take, drop}
 use lib.Seq.{take_at}
 use borrow.Author.Tests.{le-leb}
 use Rattle.le.specs.Le.{Below}
-use Rattle.graph.specs.Answer.{Answer, refused, answered, Result, writing, laid}
+use Rattle.graph.specs.Answer.{Answer, refused, answered, Result, writing, laid, ◌else◌, ◌>>◌}
 use Rattle.graph.specs.Calls.{Next, fit, made, on_graph, rewrite_step, rewrite_call}
 use Rattle.graph.specs.Versions.{StoredGraph, read, store}
 use Rattle.graph.proofs.Steps.{goes, came, passed, same_answer}

@@ -5,7 +5,7 @@ use Prim.Native.Nat.{◌≤◌, ◌<◌}
 use lib.ListN.{length}
 use borrow.Author.Tests.{le-leb, lt-leb, eq-eqb, ne_eqb}
 use Rattle.graph.specs.Graph.{Edge, spider}
-use Rattle.graph.specs.Answer.{refused, answered, refusal}
+use Rattle.graph.specs.Answer.{refused, answered, refusal, ◌else◌, ◌>>◌}
 use Rattle.parts.specs.Parts.{InCatalogue}
 use Rattle.catalogue.specs.Price.{kind_of, part_check}
 

@@ -1,6 +1,6 @@
 -- A form that is written from left to right: what it is after one more store, where that store says in its own words which row, which index and which numbers.
 -- Assumes nothing.
-use mathlib.Core.List.{List, ◌++◌}
+use mathlib.Core.List.{List, [], ◌++◌}
 use mathlib.Core.Path.{◌≡◌, ◌∙◌}
 use Prim.Native.Nat.{ℕ}
 use lib.ListN.{length}

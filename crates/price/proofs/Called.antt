@@ -10,7 +10,7 @@ use lib.ListN.{length, length-map}
 use lib.Seq.{sets}
 use borrow.Author.Tests.{le-leb, lt-leb, leb-true, ltb-true}
 use Rattle.le.specs.Le.{Below, bytes}
-use Rattle.graph.specs.Answer.{Answer, refused, answered, Result, refusal, writing, ◌>>=◌}
+use Rattle.graph.specs.Answer.{Answer, refused, answered, Result, refusal, writing, ◌else◌, ◌>>=◌, ◌>>◌}
 use Rattle.graph.specs.Answer as answer
 use Rattle.graph.specs.Calls.{fit, in_work_room}
 use Rattle.graph.specs.Lists.{member}

@@ -1,7 +1,7 @@
 -- What a report is worth: each drawing is counted once, the sum is what the parts and buffers of the range cost, with none priced all is zero, and each number is read back from its field.
 -- Assumes nothing.
 use mathlib.Core.Path.{◌≡◌, refl, sym, ap, ◌∙◌, subst}
-use mathlib.Core.List.{List, ◌∷◌, ◌++◌, map}
+use mathlib.Core.List.{List, [], ◌∷◌, ◌++◌, map}
 use mathlib.Core.Logic.{◌⊎◌, inl, inr}
 use Prim.Native.Nat.{ℕ, zero, suc, ◌+◌, ◌-◌, ◌*◌, ◌/◌, ◌%◌, ◌^◌, ◌≤◌, ◌<◌}
 use native.Mathlib.Nat.{le_refl, lt_irrefl, not-suc-le-zero, suc-ne-zero, eq-zero-or-pos, zero-add, add-zero, zero-div, zero-mod, mod-lt, div-le_self, div-add-mod'}

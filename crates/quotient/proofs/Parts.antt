@@ -1,6 +1,6 @@
 -- The parts of the merged graph: their sizes, and what was put for each.
 -- Assumes nothing.
-use mathlib.Core.List.{List, ◌++◌, map, map-append, append-nil}
+use mathlib.Core.List.{List, [], ◌++◌, map, map-append, append-nil}
 use mathlib.Core.Path.{◌≡◌, sym, ap, ◌∙◌, subst}
 use Prim.Native.Nat.{ℕ, ◌+◌}
 use native.Mathlib.Omega.{arith}

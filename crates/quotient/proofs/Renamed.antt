@@ -1,6 +1,6 @@
 -- Ids renamed by the words of the room: one more, an edge, all edges; and that the words are the map.
 -- Assumes nothing.
-use mathlib.Core.List.{List, ◌∷◌, ◌++◌, map, map-append}
+use mathlib.Core.List.{List, [], ◌∷◌, ◌++◌, map, map-append}
 use mathlib.Core.Path.{◌≡◌, refl, sym, ap, ◌∙◌}
 use Prim.Native.Nat.{ℕ, ◌+◌}
 use native.Mathlib.Omega.{arith}

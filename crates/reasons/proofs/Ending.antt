@@ -1,7 +1,7 @@
 -- What the call comes to: the queue is made of what the first removal left; and when all is told, the buffer is that of the definition, or 10.
 -- Assumes nothing.
 use mathlib.Core.Path.{◌≡◌, refl, sym, ap, ◌∙◌, subst}
-use mathlib.Core.List.{List, ◌∷◌, ◌++◌, map}
+use mathlib.Core.List.{List, [], ◌∷◌, ◌++◌, map}
 use mathlib.Core.Logic.{inl, inr}
 use Prim.Native.Nat.{ℕ, zero, suc, ◌+◌, ◌-◌, ◌*◌, ◌/◌, ◌%◌, ◌≤◌, ◌<◌}
 use native.Mathlib.Decide.{dec_lt}
@@ -19,7 +19,7 @@ use Rattle.choice.proofs.ReasonsGraphs.{reasons_length}
 use Rattle.form.specs.Form.{Gives}
 use Rattle.form.specs.declared.Outcome.TheVariants as call
 use Rattle.form.proofs.Answers.{gives_refused, gives_done}
-use Rattle.graph.specs.Answer.{Answer, answered, Result, lay, ◌>>=◌}
+use Rattle.graph.specs.Answer.{Answer, answered, Result, lay, ◌else◌, ◌>>=◌, ◌>>◌}
 use Rattle.graph.specs.Calls.{fit}
 use Rattle.graph.specs.Graph.{Graph}
 use Rattle.graph.specs.Lists.{joined, range}

@@ -1,13 +1,13 @@
 -- The ways out of reading and rewriting.
 -- Assumes nothing.
-use mathlib.Core.List.{List, ◌∷◌}
+use mathlib.Core.List.{List, [], ◌∷◌}
 use mathlib.Core.Path.{◌≡◌, refl, ap, ◌∙◌}
 use Prim.Native.Nat.{ℕ, ◌≤◌, ◌<◌}
 use lib.ListN.{length}
 use borrow.Author.Tests.{le-leb, lt-leb}
 use Rattle.le.specs.Le.{row}
 use Rattle.le.specs.Rows.{row_at, puts}
-use Rattle.graph.specs.Answer.{answered, writing, lay}
+use Rattle.graph.specs.Answer.{answered, writing, lay, ◌else◌, ◌>>=◌, ◌>>◌}
 use Rattle.graph.specs.Calls.{rewrite_step, sizes, fit, read_call}
 use Rattle.graph.specs.Versions.{fitting}
 use Rattle.graph.proofs.Places.{sets_lay}

@@ -1,6 +1,6 @@
 -- What the choice comes to once its nodes are marked: the list does not fit, or it is written.
 -- Assumes nothing.
-use mathlib.Core.List.{List}
+use mathlib.Core.List.{List, []}
 use mathlib.Core.Path.{◌≡◌, refl, sym, ap, ◌∙◌}
 use Prim.Native.Nat.{ℕ, ◌+◌, ◌*◌, ◌≤◌, ◌<◌}
 use native.Mathlib.Omega.{arith}
@@ -22,7 +22,7 @@ use Rattle.form.specs.declared.Step.TheVariants as step
 use Rattle.form.specs.declared.Step.{Step}
 use Rattle.form.specs.declared.Outcome.TheVariants as call
 use Rattle.form.proofs.Answers.{number_refused, number_answered, gives_refused, gives_done}
-use Rattle.graph.specs.Answer.{Answer, refused, answered, Refusal, ◌>>=◌}
+use Rattle.graph.specs.Answer.{Answer, refused, answered, Refusal, ◌else◌, ◌>>=◌, ◌>>◌}
 use Rattle.graph.specs.Calls.{fit}
 use Rattle.graph.specs.Graph.{Graph, Format}
 use Rattle.graph.proofs.Places.{sets_lay}

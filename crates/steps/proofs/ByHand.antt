@@ -3,10 +3,10 @@
 use mathlib.Core.Path.{◌≡◌, refl}
 use mathlib.Core.List.{◌∷◌, ◌++◌, map}
 use lib.ListN.{replicate}
-use Rattle.graph.specs.Answer.{refusal}
+use Rattle.graph.specs.Answer.{refusal, ◌else◌, ◌>>=◌, ◌>>◌}
 use Rattle.graph.specs.Build.{new_node, new_edge, new_operation, unify, add_edge_source, add_edge_target}
 use Rattle.steps.specs.Steps.{read_step}
-use Rattle.steps.specs.Calls.{known_all, stepped, limited, turn, stopped, on_steps}
+use Rattle.steps.specs.Calls.{known_all, stepped, limited, turn, stopped, ◌at_step◌, ◌then◌, on_steps}
 use Rattle.steps.specs.ByHand.{four, table, given}
 use Rattle.graph.specs.Calls.{known, fit, made}
 use Rattle.graph.specs.Delete.{delete_edges, delete_nodes}

@@ -1,7 +1,7 @@
 -- 02, T-02: the layout is read back; and what code needs that reads the steps one after the other.
 -- Assumes nothing.
 use mathlib.Core.Bool.{Bool, true, false, cond, ◌||◌}
-use mathlib.Core.List.{List, ◌∷◌, ◌++◌, map, append_assoc}
+use mathlib.Core.List.{List, [], ◌∷◌, ◌++◌, map, append_assoc}
 use mathlib.Core.Path.{◌≡◌, refl, sym, ap, ◌∙◌, subst}
 use Prim.Native.Nat.{ℕ, zero, suc, ◌+◌, ◌*◌, ◌-◌, ◌^◌, ◌≤◌, ◌<◌}
 use native.Mathlib.Omega.{arith}
@@ -11,7 +11,7 @@ use lib.Seq.{take-append_seam, drop-append_seam, drop-drop}
 use borrow.Author.Tests.{le-leb, lt-ltb, leb-true}
 use Rattle.le.specs.Le.{Below, row, numbers}
 use Rattle.le.proofs.Numbers.{below_drop, length_row, length_numbers, numbers_below, numbers_row, drop_row}
-use Rattle.graph.specs.Answer.{Refusal, Answer, refused, answered}
+use Rattle.graph.specs.Answer.{Refusal, Answer, refused, answered, ◌else◌, ◌>>◌}
 use Rattle.graph.proofs.Steps.{same_answer, passed}
 use Rattle.steps.specs.Steps.{Step, node_step, edge_step, operation_step, pair_step, source_step, target_step, without_edges_step, without_nodes_step, kind_of, head_of, lists_of, steps_bytes, head_numbers, list_numbers, step_of, read_step, steps_within, steps_in}
 use Rattle.steps.specs.Singly.{Writable, AllWritable}

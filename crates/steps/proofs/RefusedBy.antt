@@ -1,7 +1,7 @@
 -- Which refusals a call with a list of steps can give, whatever it is given, and which of them its steps can.
 -- Assumes nothing.
 use mathlib.Core.Bool.{Bool, true, false}
-use mathlib.Core.List.{List, ◌∷◌}
+use mathlib.Core.List.{List, [], ◌∷◌}
 use mathlib.Core.Path.{◌≡◌, refl, ap}
 use Prim.Native.Nat.{ℕ, zero, suc}
 use lib.Dec.{leb}

@@ -6,7 +6,7 @@ use Prim.Native.Nat.{ℕ}
 use lib.Dec.{leb}
 use lib.ListN.{length}
 use Rattle.graph.specs.Answer as answer
-use Rattle.graph.specs.Answer.{Answer, refused, answered, Result, writing, ◌else◌, ◌>>=◌, refusal}
+use Rattle.graph.specs.Answer.{Answer, refused, answered, Result, writing, ◌else◌, ◌>>=◌, ◌>>◌, refusal}
 use Rattle.graph.specs.Calls.{fit, made}
 use Rattle.graph.specs.Form.{encode}
 use Rattle.graph.specs.Graph.{Graph}

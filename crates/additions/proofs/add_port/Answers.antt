@@ -1,6 +1,6 @@
 -- `additions::add_port` meets its contract.
 -- Assumes nothing.
-use mathlib.Core.List.{List, ◌∷◌}
+use mathlib.Core.List.{List, [], ◌∷◌}
 use mathlib.Core.Path.{ap, ◌∙◌}
 use Prim.Native.Nat.{ℕ, ◌+◌, ◌*◌}
 use lib.Seq.{sets}

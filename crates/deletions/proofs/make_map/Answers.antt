@@ -1,6 +1,6 @@
 -- `deletions::make_map` meets its contract.
 -- Assumes nothing.
-use mathlib.Core.List.{List}
+use mathlib.Core.List.{List, []}
 use mathlib.Core.Path.{sym, subst}
 use Prim.Native.Nat.{ℕ, ◌+◌}
 use lib.ListN.{replicate, length-replicate}

@@ -1,5 +1,6 @@
 -- `grouping::put_drawing` meets its contract.
 -- Assumes nothing.
+use mathlib.Core.List.{[]}
 use mathlib.Core.Path.{◌≡◌, refl, ◌∙◌}
 use Prim.Native.Nat.{ℕ}
 use lib.ListN.{length}

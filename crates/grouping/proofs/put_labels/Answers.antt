@@ -1,7 +1,7 @@
 -- `grouping::put_labels` meets its contract.
 -- Assumes nothing.
 use mathlib.Core.Logic.{inr}
-use mathlib.Core.List.{List, ◌++◌}
+use mathlib.Core.List.{List, [], ◌++◌}
 use mathlib.Core.Path.{refl, sym, ap, ◌∙◌}
 use Prim.Native.Nat.{ℕ}
 use Rattle.le.specs.Le.{words}

@@ -1,6 +1,6 @@
 -- `links::set_cell` meets its contract.
 -- Assumes nothing.
-use mathlib.Core.List.{◌∷◌}
+use mathlib.Core.List.{[], ◌∷◌}
 use mathlib.Core.Path.{ap, ◌∙◌}
 use native.Mathlib.Omega.{arith}
 use Rattle.le.specs.Rows.{puts}

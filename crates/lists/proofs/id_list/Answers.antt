@@ -5,6 +5,7 @@ use native.Mathlib.Nat.{div-mul-le_self}
 use native.Mathlib.Omega.{arith}
 use lib.ListN.{length}
 use borrow.Author.Tests.{eq-eqb, ne_eqb, le-leb, lt-leb}
+use Rattle.graph.specs.Answer.{◌else◌, ◌>>◌}
 use Rattle.graph.specs.Calls.{id_list}
 use Rattle.le.specs.Le.{numbers}
 use Rattle.le.specs.Rows.{row_at, Holds}

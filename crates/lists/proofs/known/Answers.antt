@@ -2,6 +2,7 @@
 -- Assumes nothing.
 use native.Mathlib.Omega.{arith}
 use borrow.Author.Tests.{lt-ltb, le-ltb}
+use Rattle.graph.specs.Answer.{◌else◌, ◌>>◌}
 use Rattle.graph.specs.Calls.{known}
 use Rattle.lists.proofs.known.Goals as goal
 

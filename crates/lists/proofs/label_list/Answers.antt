@@ -1,6 +1,7 @@
 -- `lists::label_list` meets its contract.
 -- Assumes nothing.
 use borrow.Author.Tests.{eq-eqb, ne_eqb}
+use Rattle.graph.specs.Answer.{◌else◌, ◌>>◌}
 use Rattle.graph.specs.Calls.{label_list}
 use Rattle.le.proofs.Numbers.{length_numbers}
 use Rattle.lists.proofs.label_list.Goals as goal

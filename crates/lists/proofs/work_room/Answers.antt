@@ -1,6 +1,7 @@
 -- `lists::work_room` meets its contract.
 -- Assumes nothing.
 use borrow.Author.Tests.{le-leb, lt-leb}
+use Rattle.graph.specs.Answer.{◌else◌}
 use Rattle.lists.proofs.work_room.Goals as goal
 
 pub returns-then-lent-needed : goal.returns-then-lent-needed

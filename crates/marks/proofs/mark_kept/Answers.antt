@@ -1,6 +1,6 @@
 -- `marks::mark_kept` meets its contract.
 -- Assumes nothing.
-use Rattle.std.proofs.Common.{◌≡◌, ℕ, ◌+◌, List, ◌∷◌, ◌++◌, set, sym, refl, ap, ◌∙◌, le_antisymm, zero-add, arith, length-set}
+use Rattle.std.proofs.Common.{◌≡◌, ℕ, ◌+◌, List, [], ◌∷◌, ◌++◌, set, sym, refl, ap, ◌∙◌, le_antisymm, zero-add, arith, length-set}
 use Rattle.le.specs.Rows.{entry, span}
 use Rattle.le.proofs.Rows.{holds_less, span_next}
 use Rattle.marks.specs.Tables.{most_nodes, kept_in}

@@ -1,7 +1,7 @@
 -- `moved::put_map` meets its contract.
 -- Assumes nothing.
 use mathlib.Core.Bool.{cond}
-use mathlib.Core.List.{◌∷◌}
+use mathlib.Core.List.{◌∷◌, []}
 use Prim.Native.Nat.{ℕ, ◌+◌, ◌-◌, ◌^◌, ◌<◌}
 use native.Mathlib.Nat.{le_antisymm}
 use mathlib.Core.Path.{refl, ap, ◌∙◌}

@@ -1,5 +1,6 @@
 -- `pieces::put_head` meets its contract.
 -- Assumes nothing.
+use mathlib.Core.List.{[]}
 use mathlib.Core.Path.{refl, sym, ◌∙◌}
 use native.Mathlib.Omega.{arith}
 use Rattle.le.specs.Rows.{span}

@@ -1,6 +1,6 @@
 -- `pieces::put_node_labels` meets its contract.
 -- Assumes nothing.
-use mathlib.Core.List.{List, ◌∷◌, ◌++◌, map, append_assoc}
+use mathlib.Core.List.{List, [], ◌∷◌, ◌++◌, map, append_assoc}
 use mathlib.Core.Path.{◌∙◌, refl, sym, ap}
 use Prim.Native.Nat.{ℕ}
 use native.Mathlib.Omega.{arith}

@@ -1,7 +1,7 @@
 -- `reasons::put_chosen` meets its contract.
 -- Assumes nothing.
 use mathlib.Core.Path.{◌∙◌}
-use mathlib.Core.List.{◌∷◌}
+use mathlib.Core.List.{[], ◌∷◌}
 use Rattle.reasons.specs.Told.{entered}
 use Rattle.reasons.proofs.put_chosen.Goals as goal
 

@@ -1,6 +1,7 @@
 -- `rewrite::read_sizes` meets its contract.
 -- Assumes nothing.
 use native.Mathlib.Omega.{arith}
+use Rattle.graph.specs.Answer.{◌>>=◌}
 use Rattle.form.specs.Stored.{Stored}
 use Rattle.form.proofs.Answers.{passed_read, gives_refused}
 use Rattle.form.proofs.Stored.{unread, stored_rows, stored_bytes}

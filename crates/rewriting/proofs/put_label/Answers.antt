@@ -1,6 +1,6 @@
 -- `rewriting::put_label` meets its contract.
 -- Assumes nothing.
-use mathlib.Core.List.{◌∷◌}
+use mathlib.Core.List.{[], ◌∷◌}
 use mathlib.Core.Path.{ap, ◌∙◌}
 use Rattle.le.specs.Rows.{entry, puts}
 use Rattle.le.specs.declared.Row.{Row}

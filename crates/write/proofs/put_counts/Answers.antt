@@ -1,7 +1,7 @@
 -- `write::put_counts` meets its contract.
 -- Assumes nothing.
 use mathlib.Core.Path.{ap, ◌∙◌}
-use mathlib.Core.List.{List, ◌∷◌}
+use mathlib.Core.List.{List, ◌∷◌, []}
 use Prim.Native.Nat.{ℕ}
 use Rattle.le.specs.Rows.{row_at, puts}
 use Rattle.le.proofs.Rows.{puts_append}

@@ -2,6 +2,7 @@
 -- Assumes nothing.
 use mathlib.Core.Path.{sym, ◌∙◌}
 use borrow.Author.Tests.{not-true, not-false, le-leb, lt-leb}
+use Rattle.graph.specs.Answer.{◌else◌, ◌>>◌}
 use Rattle.write.specs.Write.{result_size}
 use Rattle.write.proofs.Results.{fitted_low, form_long}
 use Rattle.write.proofs.result_size.Goals as goal
