@@ -2,12 +2,11 @@
 -- Assumes nothing.
 use mathlib.Core.List.{List, [], ◌++◌, map, append_assoc}
 use mathlib.Core.Path.{◌≡◌, refl, sym, ap, ◌∙◌}
-use Prim.Native.Nat.{ℕ, ◌+◌, ◌/◌, ◌%◌}
+use Prim.Native.Nat.{ℕ, ◌/◌, ◌%◌}
 use native.Mathlib.Nat.{add-zero}
 use lib.ListN.{length, length-map}
-use Rattle.graph.specs.Answer.{Answer}
 use Rattle.choice.specs.Arcs.{how_many}
-use Rattle.catalogue.specs.Price.{Priced, price}
+use Rattle.catalogue.specs.Price.{price}
 use Rattle.catalogue.specs.Range.{sum_of, is_priced, none, dearest_of, index_of, report_of}
 use Rattle.price.specs.Totals.{totals_of}
 use Rattle.price.proofs.Adding.{meant_back}

@@ -4,7 +4,7 @@ use Rattle.std.specs.Prelude.{cond, List, [], ◌++◌, map, ℕ, eqb, length}
 use Rattle.graph.specs.Answer.{Answer, refused, answered}
 use Rattle.graph.specs.Lists.{joined}
 use Rattle.amounts.specs.Amounts.{amount, count_of, kind_line, buffers_line}
-use Rattle.catalogue.specs.Price.{kinds, Priced, price}
+use Rattle.catalogue.specs.Price.{kinds, price}
 use Rattle.catalogue.specs.Range.{drawings_in, most_drawings, refusal_numbers, Report, report_of}
 use Rattle.text.specs.Text.{ascii, field, refused_line}
 
