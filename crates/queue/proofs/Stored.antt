@@ -4,7 +4,8 @@ use mathlib.Core.Path.{◌≡◌, refl, sym, ap, ◌∙◌, subst}
 use mathlib.Core.List.{List, [], ◌∷◌, ◌++◌}
 use mathlib.Core.Logic.{◌≢◌, ◌⊎◌, inl, inr, ⊎_elim}
 use Prim.Native.Nat.{ℕ, zero, suc, ◌+◌, ◌-◌, ◌*◌, ◌/◌, ◌%◌, ◌≤◌, ◌<◌}
-use native.Mathlib.Decide.{ℕ_discrete, dec_lt}
+use native.Mathlib.Decide.{ℕ_discrete}
+use native.Mathlib.Nat.{le_refl}
 use native.Mathlib.Omega.{arith}
 use lib.ListN.{length, get_or, set, length-set, length-append, get_or-append}
 use lib.Seq.{get_or-set_same, get_or-set_other, ext_get_or, get_or-append_seam}
@@ -109,45 +110,19 @@ larger_is W base n i c p q e h = record {
     which j r f (yes g) = inl g
     which j r f (no g) = inr (omega arith)
 
-module _ (W : List ℕ) (base n i : ℕ) where
-  -- there is no right one
-  pub larger_alone : 2 * i + 1 < n → n ≤ 2 * i + 1 + 1 → Larger (keys_in W base n) n i (2 * i + 1)
-  larger_alone l m = larger_is W base n i (2 * i + 1) (omega arith) l (omega arith) (λ j w s. ⊎_elim (λ e. omega (arith, ap (key_at W base) e)) (λ e. absurd (omega arith)) w)
+module _ (W : List ℕ) (base n i right : ℕ) (l : 2 * i + 1 < n) (there : (right ≡ 2 * i + 1) ⊎ (right ≡ 2 * i + 1 + 1)) (last : 2 * i + 1 + 1 < n → right ≡ 2 * i + 1 + 1) where
+  at : (j : ℕ) → j ≡ right → key_at W base j ≡ key_at W base right
+  at j e = ap (key_at W base) e
 
-  left_or_right : (up : ℕ) → 2 * i + 1 + 1 < n → Dec (key_at W base (2 * i + 1) < key_at W base (2 * i + 1 + 1))
-      → (key_at W base (2 * i + 1) < key_at W base (2 * i + 1 + 1) → up ≡ 1) → (key_at W base (2 * i + 1 + 1) ≤ key_at W base (2 * i + 1) → up ≡ 0) → Larger (keys_in W base n) n i (2 * i + 1 + up)
-  left_or_right up l (yes h) one none =
-      subst (λ (u : ℕ). Larger (keys_in W base n) n i (2 * i + 1 + u)) (sym (one h))
-      (larger_is W base n i (2 * i + 1 + 1) (omega arith) l (omega arith) (λ j w s. ⊎_elim (λ e. omega (arith, ap (key_at W base) e)) (λ e. omega (arith, ap (key_at W base) (e ∙ seam))) w))
+  -- the right one is larger, so it is another than the left one
+  pub larger_right : right < n → key_at W base (2 * i + 1) < key_at W base right → Larger (keys_in W base n) n i right
+  larger_right q h = larger_is W base n i right (⊎_elim (λ e. omega arith) (λ e. omega arith) there) q (omega (arith, other)) (λ j w s. ⊎_elim (λ e. omega (arith, ap (key_at W base) e)) (λ e. omega (arith, at j (e ∙ sym other))) w)
     where
-      seam : 2 * i + 2 ≡ 2 * i + 1 + 1
-      seam = omega arith
-  left_or_right up l (no h) one none =
-      subst (λ (u : ℕ). Larger (keys_in W base n) n i (2 * i + 1 + u)) (sym (none (omega arith)))
-      (larger_is W base n i (2 * i + 1 + 0) (omega arith) (omega arith) (omega arith) (λ j w s. ⊎_elim (λ e. omega (arith, ap (key_at W base) (e ∙ left))) (λ e. omega (arith, ap (key_at W base) (e ∙ seam), ap (key_at W base) left)) w))
-    where
-      left : 2 * i + 1 ≡ 2 * i + 1 + 0
-      left = omega arith
+      other : right ≡ 2 * i + 2
+      other = ⊎_elim (λ e. absurd (omega (arith, ap (key_at W base) e))) (λ e. omega arith) there
 
-      seam : 2 * i + 2 ≡ 2 * i + 1 + 1
-      seam = omega arith
-
-  -- one further if the right one is above the left one
-  pub larger_beside : (up : ℕ) → 2 * i + 1 + 1 < n → (key_at W base (2 * i + 1) < key_at W base (2 * i + 1 + 1) → up ≡ 1) → (key_at W base (2 * i + 1 + 1) ≤ key_at W base (2 * i + 1) → up ≡ 0)
-      → Larger (keys_in W base n) n i (2 * i + 1 + up)
-  larger_beside up l = left_or_right up l (dec_lt (key_at W base (2 * i + 1)) (key_at W base (2 * i + 1 + 1)))
-
-  larger_is_key : (up most : ℕ) → Dec (key_at W base (2 * i + 1) < key_at W base (2 * i + 1 + 1))
-      → (key_at W base (2 * i + 1) < key_at W base (2 * i + 1 + 1) → (up ≡ 1) × (most ≡ key_at W base (2 * i + 1 + 1))) → (key_at W base (2 * i + 1 + 1) ≤ key_at W base (2 * i + 1) → (up ≡ 0) × (most ≡ key_at W base (2 * i + 1)))
-      → most ≡ key_at W base (2 * i + 1 + up)
-  larger_is_key up most (yes h) one none = (one h).1 ∙ ap (λ (u : ℕ). key_at W base (2 * i + 1 + u)) (sym (one h).0)
-  larger_is_key up most (no h) one none = let o = none (omega arith) in o.1 ∙ ap (key_at W base) (omega (arith, o.0))
-
-  -- and its key
-  pub larger_key : (up most : ℕ)
-      → (key_at W base (2 * i + 1) < key_at W base (2 * i + 1 + 1) → (up ≡ 1) × (most ≡ key_at W base (2 * i + 1 + 1))) → (key_at W base (2 * i + 1 + 1) ≤ key_at W base (2 * i + 1) → (up ≡ 0) × (most ≡ key_at W base (2 * i + 1)))
-      → most ≡ key_at W base (2 * i + 1 + up)
-  larger_key up most = larger_is_key up most (dec_lt (key_at W base (2 * i + 1)) (key_at W base (2 * i + 1 + 1)))
+  pub larger_left : key_at W base right ≤ key_at W base (2 * i + 1) → Larger (keys_in W base n) n i (2 * i + 1)
+  larger_left h = larger_is W base n i (2 * i + 1) (omega arith) l (omega arith) (λ j w s. ⊎_elim (λ e. omega (arith, ap (key_at W base) e)) (λ e. let r : right ≡ 2 * i + 2 = omega (arith, last (omega arith)) in omega (arith, at j (e ∙ sym r))) w)
 
 -- ---- sinking, in words
 

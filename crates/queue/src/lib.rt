@@ -32,6 +32,14 @@ fn put_key(room: &mut [u8], base: usize, i: usize, k: u64)
     le::set_word(room, x + 1, (k / 4294967296) as u32);
 }
 
+// The key beside a left one of n, or the left one itself where it is the last.
+fn beside(left: usize, n: usize) -> usize
+    requires { left < n }
+    ensures { (result < n) × ((result ≡ left) ⊎ (result ≡ left + 1)) × (left + 1 < n → result ≡ left + 1) }
+{
+    if left + 1 < n { left + 1 } else { left }
+}
+
 // A key, and which it is.
 #[derive(Clone, Copy)]
 pub struct Below {
@@ -39,38 +47,24 @@ pub struct Below {
     pub key: u64,
 }
 
-// 1 if the second key is above the first, else 0: as a number, so that the compiler needs no branch that it would have to foresee.
-fn is_above(a: u64, b: u64) -> usize
-    ensures { (a < b → result ≡ 1) × (b ≤ a → result ≡ 0) × (result ≤ 1) }
-{
-    if a < b { 1 } else { 0 }
-}
-
-// The larger of two keys.
-fn larger(a: u64, b: u64) -> u64
-    ensures { (a < b → result ≡ b) × (b ≤ a → result ≡ a) }
-{
-    if a < b { b } else { a }
-}
-
-// Of the one or two keys below key i, the larger.
+// Of the one or two keys below key i, the larger. Index and key follow from one comparison, and the key is not looked up again, so that the compiler needs no branch.
 fn larger_below(room: &[u8], base: usize, n: usize, i: usize) -> Below
     requires { (2 * i + 1 < n) × (4 * (base + 2 * n) ≤ length room.now) }
     ensures { Larger (keys_in (words room.now) base n) n i result.index × (result.key ≡ key_at (words room.now) base result.index) }
 {
     let left = 2 * i + 1;
-    let right = left + 1;
+    let right = beside(left, n);
     let a = key_at(room, base, left);
-    if n <= right {
+    let b = key_at(room, base, right);
+    if a < b {
         return Below {
-            index: left,
-            key: a,
+            index: right,
+            key: b,
         };
     }
-    let b = key_at(room, base, right);
     Below {
-        index: left + is_above(a, b),
-        key: larger(a, b),
+        index: left,
+        key: a,
     }
 }
 
