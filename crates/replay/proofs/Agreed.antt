@@ -2,7 +2,7 @@
 -- Assumes nothing.
 use mathlib.Core.Bool.{true, false}
 use mathlib.Core.List.{List}
-use mathlib.Core.Path.{◌≡◌, refl, sym, ap, ◌∙◌}
+use mathlib.Core.Path.{◌≡◌, sym, ap, ◌∙◌}
 use Prim.Native.Nat.{ℕ, ◌+◌, ◌<◌}
 use native.Mathlib.Omega.{arith}
 use lib.Dec.{eqb}
@@ -10,33 +10,36 @@ use lib.ListN.{length, get_or, set, length-replicate, get_or-replicate}
 use lib.Seq.{ext_get_or, get_or-set_same, get_or-set_other}
 use borrow.Author.Count.{below_more}
 use borrow.Author.Tests.{eqb-true}
-use Rattle.graph.specs.Answer.{Answer, Result}
-use Rattle.steps.specs.Calls.{Built}
-use Rattle.packing.specs.Packed.{Returns, ReturnsMap}
-use Rattle.ohg.specs.Built.{ReturnsBuilt}
+use Rattle.graph.specs.Answer.{Answer, Result, laid, laid_map}
+use Rattle.packing.specs.Packed.{packed, Returns, ReturnsMap}
 use Rattle.replay.specs.declared.list.Record.{Record}
-use Rattle.replay.specs.Due.{part_of, Handed, Left, writes, maps, builds, answer_to, Agreed, handed_by, filled, Due}
+use Rattle.replay.specs.Due.{part_of, Handed, answer_to, out_after, map_after, Agreed, handed_by, filled, Due}
 
 pub not_so : {A : Type 0} → false ≡ true → A
 not_so e = let z : ◌≡◌ {A = ℕ} 0 1 = cc in absurd (omega arith)
 
--- a call that left what the definition of this number gives, and returned the number that is due
-module _ {r due : ℕ} where
-  pub agreed_left : {x : Left} (n : ℕ) (h : Handed) → answer_to n h ≡ x → eqb r due ≡ true → {old new old_map new_map : List ℕ} → r ≡ x.number → new ≡ x.out old → new_map ≡ x.map old_map → Agreed n h due old new old_map new_map
-  agreed_left {x} n h is e {old} {new} {old_map} number buffer map = record {
-    number = sym (eqb-true r due e) ∙ number ∙ ap (λ (y : Left). y.number) (sym is);
-    buffer = buffer ∙ ap (λ (y : Left). y.out old) (sym is);
-    map = map ∙ ap (λ (y : Left). y.map old_map) (sym is);
+-- a is the definition's answer to the call of this number; what the number says of the two buffers
+module _ {a : Answer Result} {r due : ℕ} where
+  pub agreed : {old new : List ℕ} → Returns a r old new → eqb r due ≡ true → (n : ℕ) (h : Handed) → answer_to n h ≡ a → out_after n ≡ laid → map_after n ≡ (λ x m. m) → (m : List ℕ) → Agreed n h due old new m m
+  agreed {old} c e n h is o k m = record {
+    number = sym (eqb-true r due e) ∙ c.number ∙ ap packed (sym is);
+    buffer = c.buffer ∙ (λ i. sym o i (sym is i) old);
+    map = λ i. sym k i (answer_to n h) m;
   }
 
-  pub agreed : {a : Answer Result} {old new : List ℕ} → Returns a r old new → eqb r due ≡ true → (n : ℕ) (h : Handed) → answer_to n h ≡ writes a → (m : List ℕ) → Agreed n h due old new m m
-  agreed c e n h is m = agreed_left n h is e c.number c.buffer refl
+  pub agreed_map : {old new old_map new_map : List ℕ} → ReturnsMap a r old new old_map new_map → eqb r due ≡ true → (n : ℕ) (h : Handed) → answer_to n h ≡ a → out_after n ≡ laid → map_after n ≡ laid_map → Agreed n h due old new old_map new_map
+  agreed_map {old} {new} {old_map} c e n h is o k = record {
+    number = sym (eqb-true r due e) ∙ c.number ∙ ap packed (sym is);
+    buffer = c.buffer ∙ (λ i. sym o i (sym is i) old);
+    map = c.map ∙ (λ i. sym k i (sym is i) old_map);
+  }
 
-  pub agreed_map : {a : Answer Result} {old new old_map new_map : List ℕ} → ReturnsMap a r old new old_map new_map → eqb r due ≡ true → (n : ℕ) (h : Handed) → answer_to n h ≡ maps a → Agreed n h due old new old_map new_map
-  agreed_map c e n h is = agreed_left n h is e c.number c.buffer c.map
-
-  pub agreed_built : {a : Built Result} {old new : List ℕ} → ReturnsBuilt a r old new → eqb r due ≡ true → (n : ℕ) (h : Handed) → answer_to n h ≡ builds a → (m : List ℕ) → Agreed n h due old new m m
-  agreed_built c e n h is m = agreed_left n h is e c.number c.buffer refl
+  pub agreed_yes : r ≡ packed a → eqb r due ≡ true → (n : ℕ) (h : Handed) → answer_to n h ≡ a → out_after n ≡ (λ x m. m) → map_after n ≡ (λ x m. m) → (o m : List ℕ) → Agreed n h due o o m m
+  agreed_yes c e n h is p k o m = record {
+    number = sym (eqb-true r due e) ∙ c ∙ ap packed (sym is);
+    buffer = λ i. sym p i (answer_to n h) o;
+    map = λ i. sym k i (answer_to n h) m;
+  }
 
 -- ---- with the buffers that were filled
 
@@ -52,8 +55,8 @@ due_from {list} {q} {o} {o'} {m} {m'} n k e f a one two =
       map = length m;
       agreed = record {
         number = a.number;
-        buffer = sym one ∙ a.buffer ∙ ap (answer_to q.operation h).out (long o n e);
-        map = sym two ∙ a.map ∙ ap (answer_to q.operation h).map (long m k f);
+        buffer = sym one ∙ a.buffer ∙ ap (out_after q.operation (answer_to q.operation h)) (long o n e);
+        map = sym two ∙ a.map ∙ ap (map_after q.operation (answer_to q.operation h)) (long m k f);
       };
     }
 

@@ -1,12 +1,10 @@
 -- What a recorded call is by the definitions, and when it agrees.
 -- Assumes nothing.
-use Rattle.std.specs.Prelude.{ℕ, ◌-◌, ◌≡◌, cond, ◌&&◌, List, [], eqb, leb, length, take, drop, replicate}
+use Rattle.std.specs.Prelude.{ℕ, ◌-◌, ◌≡◌, cond, ◌&&◌, ◌||◌, List, [], eqb, leb, length, take, drop, replicate}
 use Rattle.graph.specs.Answer.{Answer, Result, refused, refusal, laid, laid_map}
 use Rattle.graph.specs.Calls.{read_call, rewrite_call, empty_call, discrete_call, identity_call, singleton_call, new_node_call, new_edge_call, new_operation_call, unify_call, add_edge_source_call, add_edge_target_call, delete_edges_call, delete_nodes_call, quotient_call, spiderize_call, spiderize_nodes_call, once_fed_call}
 use Rattle.choice.specs.Calls.{cycle_breaking_nodes_call, cycle_breaking_nodes_keeping_call, cycle_breaking_nodes_scanning_call, find_loop_call, no_loop_call, reasons_call}
-use Rattle.steps.specs.Calls.{Built, build_call, laid_built}
 use Rattle.packing.specs.Packed.{packed}
-use Rattle.ohg.specs.Built.{packed_built}
 use Rattle.replay.specs.declared.list.Record.{Record}
 
 -- the bytes of the list from one place up to another, none where they do not lie in it
@@ -24,60 +22,48 @@ pub record Handed : Type 0 where
   pub map : ℕ
   pub room : ℕ
 
--- what a call leaves: the number that it returns, and what its answer buffer and the buffer of its map hold afterwards by what they held
-pub record Left : Type 0 where
-  pub number : ℕ
-  pub out : List ℕ → List ℕ
-  pub map : List ℕ → List ℕ
-
--- a call that answers into its buffer; one that answers a map as well; one that has no buffer; and one with steps
-abbrev pub writes : Answer Result → Left
-writes a = record { number = packed a; out = laid a; map = λ m. m }
-
-abbrev pub maps : Answer Result → Left
-maps a = record { number = packed a; out = laid a; map = laid_map a }
-
-abbrev pub says : Answer Result → Left
-says a = record { number = packed a; out = λ o. o; map = λ m. m }
-
-abbrev pub builds : Built Result → Left
-builds a = record { number = packed_built a; out = laid_built a; map = λ m. m }
-
--- what the call of this number leaves, by the definition of its own name
-unfoldable pub answer_to : ℕ → Handed → Left
+-- the answer of the call of this number, by the definition of its own name
+unfoldable pub answer_to : ℕ → Handed → Answer Result
 answer_to n h =
-    cond (eqb n 0) (writes (read_call h.one h.out))
-    (cond (eqb n 1) (writes (rewrite_call h.one h.out))
-    (cond (eqb n 2) (writes (empty_call h.out))
-    (cond (eqb n 3) (writes (discrete_call h.one h.out))
-    (cond (eqb n 4) (writes (identity_call h.one h.out))
-    (cond (eqb n 5) (writes (singleton_call h.x h.one h.two h.out))
-    (cond (eqb n 6) (writes (new_node_call h.one h.x h.out))
-    (cond (eqb n 7) (writes (new_edge_call h.one h.x h.two h.three h.out))
-    (cond (eqb n 8) (writes (new_operation_call h.one h.x h.two h.three h.out))
-    (cond (eqb n 9) (writes (unify_call h.one h.x h.y h.out))
-    (cond (eqb n 10) (writes (add_edge_source_call h.one h.x h.y h.out))
-    (cond (eqb n 11) (writes (add_edge_target_call h.one h.x h.y h.out))
-    (cond (eqb n 12) (writes (delete_edges_call h.one h.two h.out h.room))
-    (cond (eqb n 13) (maps (delete_nodes_call h.one h.two h.out h.map h.room))
-    (cond (eqb n 14) (writes (cycle_breaking_nodes_call h.one h.out h.room))
-    (cond (eqb n 15) (writes (spiderize_call h.one h.out h.room))
-    (cond (eqb n 16) (writes (spiderize_nodes_call h.one h.two h.out h.room))
-    (cond (eqb n 17) (says (no_loop_call h.one h.room))
-    (cond (eqb n 18) (says (once_fed_call h.one h.room))
-    (cond (eqb n 19) (maps (quotient_call h.one h.out h.map h.room))
-    (cond (eqb n 20) (writes (cycle_breaking_nodes_keeping_call h.one h.two h.out h.room))
-    (cond (eqb n 21) (writes (cycle_breaking_nodes_scanning_call h.one h.two h.out h.room))
-    (cond (eqb n 22) (writes (find_loop_call h.one h.out h.room))
-    (cond (eqb n 23) (writes (reasons_call h.one h.out h.room))
-    (cond (eqb n 24) (builds (build_call h.one h.two h.out h.room))
-    (says (refused (refusal 0)))))))))))))))))))))))))))
+    cond (eqb n 0) (read_call h.one h.out)
+    (cond (eqb n 1) (rewrite_call h.one h.out)
+    (cond (eqb n 2) (empty_call h.out)
+    (cond (eqb n 3) (discrete_call h.one h.out)
+    (cond (eqb n 4) (identity_call h.one h.out)
+    (cond (eqb n 5) (singleton_call h.x h.one h.two h.out)
+    (cond (eqb n 6) (new_node_call h.one h.x h.out)
+    (cond (eqb n 7) (new_edge_call h.one h.x h.two h.three h.out)
+    (cond (eqb n 8) (new_operation_call h.one h.x h.two h.three h.out)
+    (cond (eqb n 9) (unify_call h.one h.x h.y h.out)
+    (cond (eqb n 10) (add_edge_source_call h.one h.x h.y h.out)
+    (cond (eqb n 11) (add_edge_target_call h.one h.x h.y h.out)
+    (cond (eqb n 12) (delete_edges_call h.one h.two h.out h.room)
+    (cond (eqb n 13) (delete_nodes_call h.one h.two h.out h.map h.room)
+    (cond (eqb n 14) (cycle_breaking_nodes_call h.one h.out h.room)
+    (cond (eqb n 15) (spiderize_call h.one h.out h.room)
+    (cond (eqb n 16) (spiderize_nodes_call h.one h.two h.out h.room)
+    (cond (eqb n 17) (no_loop_call h.one h.room)
+    (cond (eqb n 18) (once_fed_call h.one h.room)
+    (cond (eqb n 19) (quotient_call h.one h.out h.map h.room)
+    (cond (eqb n 20) (cycle_breaking_nodes_keeping_call h.one h.two h.out h.room)
+    (cond (eqb n 21) (cycle_breaking_nodes_scanning_call h.one h.two h.out h.room)
+    (cond (eqb n 22) (find_loop_call h.one h.out h.room)
+    (cond (eqb n 23) (reasons_call h.one h.out h.room)
+    (refused (refusal 0)))))))))))))))))))))))))
+
+-- what the answer buffer holds afterwards: the two checks have none
+unfoldable pub out_after : ℕ → Answer Result → List ℕ → List ℕ
+out_after n a old = cond (eqb n 17 || eqb n 18) old (laid a old)
+
+-- and the buffer of a map: two calls answer one
+unfoldable pub map_after : ℕ → Answer Result → List ℕ → List ℕ
+map_after n a old = cond (eqb n 13 || eqb n 19) (laid_map a old) old
 
 -- the number that is due is the one that the definition gives, and so are the bytes of both buffers
 pub record Agreed (n : ℕ) (h : Handed) (due : ℕ) (old new old_map new_map : List ℕ) : Type 0 where
-  pub number : due ≡ (answer_to n h).number
-  pub buffer : new ≡ (answer_to n h).out old
-  pub map : new_map ≡ (answer_to n h).map old_map
+  pub number : due ≡ packed (answer_to n h)
+  pub buffer : new ≡ out_after n (answer_to n h) old
+  pub map : new_map ≡ map_after n (answer_to n h) old_map
 
 -- what a record of the list hands to its call, with answer buffers and work room of these lengths
 unfoldable pub handed_by : List ℕ → Record → ℕ → ℕ → ℕ → Handed

@@ -149,7 +149,6 @@ fn two_in_with_room(
         16 => ohg::ohg_spiderize_nodes(src, ids, out, room) == due,
         20 => ohg::ohg_cycle_breaking_nodes_keeping(src, ids, out, room) == due,
         21 => ohg::ohg_cycle_breaking_nodes_scanning(src, ids, out, room) == due,
-        24 => ohg::ohg_build(src, ids, out, room) == due,
         _ => false,
     }
 }
