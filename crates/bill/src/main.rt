@@ -50,6 +50,7 @@ fn room_buffer() -> [u8; parts::ROOM_PRICE]
 // (`bill_of_prefix`, proofs/Prefix).
 //
 // A read that fails is told on standard error, and then there is no bill: `refused 1` or `refused 5` would blame the drawing. A write that fails is told there too.
+// Where nothing can be told there either, the program ends with the error of that.
 fn main(rt: HostRuntime) -> std::io::Result<()> {
     let mut form = mebibyte();
     let Ok(n) = text::read_full(&mut rt.stdin(), &mut form) else {

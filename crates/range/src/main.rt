@@ -47,6 +47,7 @@ fn room_buffer() -> [u8; price::ROOM_PRICE_RANGE]
 // Reads, prices and writes. No contract can say which bytes are read or written, so all that is to be decided is decided in `glance`.
 //
 // A slice that is longer than the buffer is told on standard error, and so is a read that fails; then there is no report: one on a part of the slice would be another. A write that fails is told there too.
+// Where nothing can be told there either, the program ends with the error of that.
 fn main(rt: HostRuntime) -> std::io::Result<()> {
     let mut slice = four_mebibytes();
     let mut input = rt.stdin();

@@ -45,6 +45,7 @@ fn report(src: &[u8], list: &mut [u8], room: &mut [u8], out: &mut [u8]) -> usize
 // the whole with the same number; and where nothing does, both are too long, which is 5.
 //
 // A read that fails is told on standard error, and then there is no report: `refused 1` or `refused 5` would blame the drawing. A write that fails is told there too.
+// Where nothing can be told there either, the program ends with the error of that.
 fn main(rt: HostRuntime) -> std::io::Result<()> {
     let mut form = io::large_buffer();
     let Ok(n) = text::read_full(&mut rt.stdin(), &mut form) else {

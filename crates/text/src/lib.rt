@@ -2,7 +2,8 @@
 // and bounds it so that the next one has room: a number takes at most 20 bytes.
 #![tactic(auto)]
 
-ghost use Rattle.std.specs.Prelude.{◌++◌, ◌+◌, ◌≤◌, length, IfOk};
+ghost use Rattle.std.specs.Prelude.{◌≡◌, ◌++◌, ◌+◌, ◌<◌, ◌≤◌, length, take, true, IfOk};
+ghost use Rattle.std.specs.Io.KnownBytes.{Consumes, IsAtEnd};
 ghost use Rattle.io.specs.Counts.{IsPrefixLen};
 ghost use Rattle.text.specs.Text.{Printed, decimal, refused_line};
 
@@ -50,15 +51,18 @@ pub fn put_refusal(out: &mut [u8], x: Refusal) -> usize
     put_text(out, next, b"\n")
 }
 
-// Reads until buf is full or the input ends, and answers how many bytes it put at the start of buf. A read that fails, and one that a signal interrupts, ends it with the error.
+// Reads until buf is full or the input ends, and answers how many bytes it put at the start of buf: the next ones of the input, and where they are fewer than buf holds, its last ones.
+// A read that fails, and one that a signal interrupts, ends it with the error.
 pub fn read_full<R: Read>(input: &mut R, buf: &mut [u8]) -> std::io::Result<usize>
-    ensures { IfOk result (λ n. IsPrefixLen n buf.new) }
+    ensures prefix_len { IfOk result (λ n. IsPrefixLen n buf.new) }
+    ensures bytes { IfOk result (λ n. Consumes (R.remaining input.old) (R.remaining input.new) (take n buf.new)) }
+    ensures ended { IfOk result (λ n. n < length buf.new → IsAtEnd (R.remaining input.new)) }
 {
     let mut done = 0;
     while done < buf.len() {
         let n = input.read(&mut buf[done..])?;
         if n == 0 {
-            break;
+            return Ok(done);
         }
         done += n;
     }
@@ -66,7 +70,9 @@ pub fn read_full<R: Read>(input: &mut R, buf: &mut [u8]) -> std::io::Result<usiz
 }
 
 // Whether the input has ended. Where it has not, a byte of it is gone.
-pub fn is_ended<R: Read>(input: &mut R) -> std::io::Result<bool> {
+pub fn is_ended<R: Read>(input: &mut R) -> std::io::Result<bool>
+    ensures { IfOk result (λ ended. ended ≡ true → IsAtEnd (R.remaining input.new)) }
+{
     let mut spare = [0u8; 1];
     let n = input.read(&mut spare)?;
     Ok(n == 0)
