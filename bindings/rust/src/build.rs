@@ -2,7 +2,7 @@
 
 use crate::exported::ohg_build;
 use crate::lent::{self, answered, step_of};
-use crate::{number, EdgeId, Graph, Interface, NodeId, Refusal, Refused};
+use crate::{number, EdgeId, Graph, Interface, NodeId, Refusal, Refused, RefusedStep};
 use std::collections::HashSet;
 
 /// The kinds of steps: `OHG_STEP_NEW_NODE` and so on.
@@ -148,7 +148,7 @@ impl Builder<'_> {
     }
 
     /// Sends all steps in one call. A refusal at a step, of which the index is told, refuses them all, and the graph is as it
-    /// was.
+    /// was. Where the index is not asked for, `?` makes a [`Refused`] of what is given.
     ///
     /// Refused: [`BadList`](Refusal::BadList), [`ResultLimit`](Refusal::ResultLimit) where any of the steps passes a limit,
     /// [`BadStep`](Refusal::BadStep) for a list that is longer than 4 bytes can tell.
@@ -163,13 +163,14 @@ impl Builder<'_> {
     /// assert_eq!((refused.step, refused.place), (Some(1), 1));
     /// assert_eq!(graph, Graph::empty());
     /// ```
-    pub fn finish(self) -> Result<(), Refused> {
+    pub fn finish(self) -> Result<(), RefusedStep> {
         let Builder { graph, steps, .. } = self;
         lent::with(|lent| {
             let packed = ohg_build(&graph.form, &steps, &mut lent.form, &mut lent.room);
-            let (bytes, _) = answered(packed).map_err(|refused| Refused {
-                step: is_of_a_step(refused.by).then(|| step_of(packed)),
-                ..refused
+            let (bytes, _) = answered(packed).map_err(|Refused { by, place }| RefusedStep {
+                by,
+                place,
+                step: is_of_a_step(by).then(|| step_of(packed)),
             })?;
             lent.form[..bytes].clone_into(&mut graph.form);
             Ok(())

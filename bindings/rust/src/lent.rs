@@ -38,7 +38,6 @@ pub fn answered(packed: u64) -> Result<(usize, u32), Refused> {
         code => Err(Refused {
             by: Refusal::of(code),
             place: (packed >> 32) as usize,
-            step: None,
         }),
     }
 }

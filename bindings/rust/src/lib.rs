@@ -4,7 +4,7 @@
 //! A [`Graph`] owns the stored bytes of a drawing. Its methods have the names of the Rust original, open-hypergraphs;
 //! where that panics, or takes an id that is not there, they refuse. Each names the [`Refusal`]s that it may give; what is
 //! given is a [`Refused`], which says the place too. A refused call changes nothing. Lists may have any length; what passes a
-//! limit is refused. Many building steps are sent in one call by [`Graph::build`].
+//! limit is refused. Many building steps are sent in one call by [`Graph::build`], which gives a [`RefusedStep`].
 //!
 //! ```
 //! use ohg::{Graph, NodeId, Refused};
@@ -36,7 +36,7 @@ mod refusal;
 pub use build::Builder;
 use exported::*;
 use lent::{answered, Lent};
-pub use refusal::{Refusal, Refused};
+pub use refusal::{Refusal, Refused, RefusedStep};
 use std::{array, fmt};
 
 /// The edge label that says spider; every other value is an operation.

@@ -141,7 +141,6 @@ fn in_one_slice(forms: impl IntoIterator<Item = impl AsRef<[u8]>>) -> Result<Vec
         let length = u32::try_from(form.len()).map_err(|_| Refused {
             by: Refusal::NoSlice,
             place: 0,
-            step: None,
         })?;
         src.extend(length.to_le_bytes());
         src.extend(form);

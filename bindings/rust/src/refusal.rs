@@ -135,20 +135,12 @@ pub struct Refused {
     /// Where, as `docs/INTERFACE.md` says for each refusal: by 1 to 6 a byte of the stored form, by 7 an entry of a list,
     /// both counted from 0; 0 for an id given singly, and by all others.
     pub place: usize,
-    /// Where a step of [`Builder`](crate::Builder) is refused, its index from 0; one above 16,777,215 is given as that.
-    pub step: Option<usize>,
 }
 
 impl fmt::Display for Refused {
-    /// The number, the step and the place where there are such, what was wrong, and what to do.
+    /// The number, the place where there is one, what was wrong, and what to do.
     fn fmt(&self, f: &mut fmt::Formatter<'_>) -> fmt::Result {
         let (number, place, advice) = (self.by.number(), self.place, self.by.advice());
-        if let Some(step) = self.step {
-            return match number {
-                7 => write!(f, "{number} at step {step}, entry {place}: {advice}"),
-                _ => write!(f, "{number} at step {step}: {advice}"),
-            };
-        }
         match number {
             1..=6 => write!(f, "{number} at byte {place}: {advice}"),
             7 => write!(f, "{number} at entry {place}: {advice}"),
@@ -158,3 +150,38 @@ impl fmt::Display for Refused {
 }
 
 impl Error for Refused {}
+
+/// Refused steps of a [`Builder`](crate::Builder): why, at which step, and where. `?` makes a [`Refused`] of it, which says
+/// all but the step.
+#[derive(Debug, Clone, Copy, PartialEq, Eq, Hash)]
+pub struct RefusedStep {
+    /// Why the call was refused.
+    pub by: Refusal,
+    /// Where, as in [`Refused`]; by 7 an entry of the step's list.
+    pub place: usize,
+    /// The refused step's index from 0; one above 16,777,215 is given as that. None where a step is not what was refused.
+    pub step: Option<usize>,
+}
+
+impl From<RefusedStep> for Refused {
+    fn from(refused: RefusedStep) -> Refused {
+        let RefusedStep { by, place, .. } = refused;
+        Refused { by, place }
+    }
+}
+
+impl fmt::Display for RefusedStep {
+    /// The number, the step and the place where there are such, what was wrong, and what to do.
+    fn fmt(&self, f: &mut fmt::Formatter<'_>) -> fmt::Result {
+        let Some(step) = self.step else {
+            return Refused::from(*self).fmt(f);
+        };
+        let (number, place, advice) = (self.by.number(), self.place, self.by.advice());
+        match number {
+            7 => write!(f, "{number} at step {step}, entry {place}: {advice}"),
+            _ => write!(f, "{number} at step {step}: {advice}"),
+        }
+    }
+}
+
+impl Error for RefusedStep {}

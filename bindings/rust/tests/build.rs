@@ -1,13 +1,13 @@
 //! Steps sent in one call, beside the single calls.
 
-use ohg::{EdgeId, Graph, NodeId, Refusal, Refused, SPIDER};
+use ohg::{EdgeId, Graph, NodeId, Refusal, Refused, RefusedStep, SPIDER};
 
 fn nodes(ids: &[u32]) -> Vec<NodeId> {
     ids.iter().copied().map(NodeId).collect()
 }
 
-fn at_step(by: Refusal, step: usize, place: usize) -> Result<(), Refused> {
-    Err(Refused {
+fn at_step(by: Refusal, step: usize, place: usize) -> Result<(), RefusedStep> {
+    Err(RefusedStep {
         by,
         place,
         step: Some(step),
@@ -124,4 +124,26 @@ fn a_refusal_says_its_step() {
     let bad = graph.build().new_operation(9, &labels, &[]);
     let text = "9 at step 0: the result would pass a limit; split the drawing";
     assert_eq!(bad.finish().unwrap_err().to_string(), text);
+}
+
+/// Where the step is not asked for, `?` gives what every other call gives.
+#[test]
+fn a_refused_step_is_a_refused_call() {
+    fn joined(graph: &mut Graph) -> Result<NodeId, Refused> {
+        let node = graph.new_node(7)?;
+        let steps = graph.build().new_node(7);
+        steps.new_edge(9, &[], &nodes(&[0, 1, 2])).finish()?;
+        Ok(node)
+    }
+    let bad = joined(&mut Graph::empty());
+    let (by, place) = (Refusal::BadList, 2);
+    assert_eq!(bad, Err(Refused { by, place }));
+}
+
+/// A mismatched archive alone may refuse what is no step; it is told as of any other call.
+#[test]
+fn a_refusal_of_no_step_says_none() {
+    let (by, place, step) = (Refusal::ShortBuffer, 0, None);
+    let bad = RefusedStep { by, place, step };
+    assert_eq!(bad.to_string(), Refused { by, place }.to_string());
 }

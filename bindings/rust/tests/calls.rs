@@ -60,11 +60,7 @@ fn chosen(ids: &[u32], free: usize) -> Result<Choice, Refused> {
 }
 
 fn at(by: Refusal, place: usize) -> Refused {
-    Refused {
-        by,
-        place,
-        step: None,
-    }
+    Refused { by, place }
 }
 
 #[test]
