@@ -4,7 +4,7 @@
 
 use crate::call::{packed, written, Arguments, Call, Due};
 use crate::cases::{self, damage, random};
-use crate::form::{self, Drawing, Sizes, VERSION_1, VERSION_2};
+use crate::form::{self, Drawing, VERSION_1, VERSION_2};
 use crate::operation::{Function, Group};
 use crate::rng::Rng;
 use crate::rooms::Rooms;
@@ -19,29 +19,19 @@ const FILL: u8 = 0xA5;
 const NO_ROOM: u32 = u32::MAX;
 
 /// Random drawings for each function.
-const RANDOM: usize = 3;
+const RANDOM: usize = 8;
 
 /// Refused forms for each function and each refusal.
-const REFUSED: usize = 1;
+const REFUSED: usize = 2;
 
 /// Of the forms whose places are worked out by hand, each function that reads a graph has one in so many.
-const DEALT: usize = 12;
+const DEALT: usize = 8;
 
 /// Of arguments picked by hand, those with up to so many bytes in and out are recorded in the exact call and in another one. Of
 /// those with up to so many more, one of each kind is recorded in the exact call: of those that tell the highest place up to 2,
 /// since 0 is told of much else, the shortest.
 const SMALL: usize = 300;
 const LARGE: usize = 42_000;
-
-/// The shortest calls that pass version 2's limits are too long to be recorded of every function that can pass them. Of these
-/// they are, up to so many bytes.
-const WITH_9: [&str; 4] = [
-    "ohg_identity",
-    "ohg_singleton",
-    "ohg_spiderize",
-    "ohg_build",
-];
-const LARGE_WITH_9: usize = 66_000;
 
 pub struct List {
     pub bytes: Vec<u8>,
@@ -119,26 +109,15 @@ pub fn list(rooms: &Rooms, rng: &mut Rng) -> Result<List, String> {
             if (function.operation.picked)().is_empty() {
                 list.put_form(&function, &outgrown, Which::Exact, rng);
             }
-            // A large drawing goes to the one function whose answer shows every byte of it.
+            // Version 1's largest drawing goes to the one function whose answer shows every byte of it.
             if function.operation.name == "ohg_rewrite" {
-                let large = form::write(&random::drawing(rng, an_eighth(VERSION_1.most)));
-                list.put_form(&function, &large, Which::Exact, rng);
+                let largest = form::write(&random::drawing(rng, VERSION_1.most));
+                list.put_form(&function, &largest, Which::Exact, rng);
             }
             row += 1;
         }
     }
     Ok(list)
-}
-
-fn an_eighth(most: Sizes) -> Sizes {
-    Sizes {
-        nodes: most.nodes / 8,
-        edges: most.edges / 8,
-        ports: most.ports / 8,
-        sources: most.sources / 8,
-        targets: most.targets / 8,
-        pairs: most.pairs / 8,
-    }
 }
 
 /// The form of a drawing by chance, drawn again while it is long.
@@ -194,14 +173,10 @@ impl List {
             let kind = kind(&arguments, due);
             let place = due.err().map_or(0, |refused| refused.place.min(2));
             let rank = (Reverse(place), bytes);
-            let most = match kind.0 {
-                9 if WITH_9.contains(&function.operation.name) => LARGE_WITH_9,
-                _ => LARGE,
-            };
             if bytes <= SMALL {
                 small.push(kind);
                 self.put_calls(function, arguments, Which::ExactAndAnother, rng);
-            } else if bytes <= most && large.get(&kind).is_none_or(|(least, _)| rank < *least) {
+            } else if bytes <= LARGE && large.get(&kind).is_none_or(|(least, _)| rank < *least) {
                 large.insert(kind, (rank, arguments));
             }
         }
@@ -293,8 +268,10 @@ mod tests {
     use super::*;
     use crate::operation::Operation;
     use crate::place::{SHORT, SINGLE_ID, TOLD};
-    use crate::rows::many::{step::Step, BUILD};
     use std::collections::BTreeSet;
+
+    /// The shortest calls that pass version 2's limits are too long to be recorded of every function that can pass them.
+    const RECORDED_WITH_9: [&str; 3] = ["ohg_identity", "ohg_singleton", "ohg_spiderize"];
 
     /// The replaying program reads no more than this.
     const MOST_BYTES: usize = 1 << 20;
@@ -316,7 +293,7 @@ mod tests {
         let (list, operations) = recorded();
         for operation in operations {
             let mut due: BTreeSet<u8> = operation.refusals.iter().copied().chain([0]).collect();
-            if !WITH_9.contains(&operation.name) {
+            if !RECORDED_WITH_9.contains(&operation.name) {
                 due.remove(&9);
             }
             let kinds = kinds(&list, operation);
@@ -366,76 +343,6 @@ mod tests {
                 let records = list.records.iter().filter(|record| record.1 == told);
                 let places = records.filter(|record| always_0 || record.2 > 0);
                 assert!(places.count() >= 3, "{told:?}");
-            }
-        }
-    }
-
-    /// What a record of a call with steps has: its steps, and the code, index and place that are due.
-    struct OfSteps {
-        steps: Vec<u8>,
-        due: (u8, u32, u32),
-    }
-
-    /// The records of calls with steps, read back from the list's bytes.
-    fn calls_with_steps(list: &List) -> Vec<OfSteps> {
-        let mut found = vec![];
-        let bytes = &list.bytes;
-        let mut at = 8;
-        let next = |at: &mut usize, n: usize| {
-            *at += n;
-            bytes[*at - n..*at].to_vec()
-        };
-        let number = |at: &mut usize| form::number(&next(at, 4), 0, 4);
-        while at < bytes.len() {
-            let operation = next(&mut at, 1)[0];
-            let numbers = next(&mut at, 1)[0] as usize;
-            next(&mut at, 4 * numbers);
-            let parts = |at: &mut usize| -> Vec<Vec<u8>> {
-                let count = next(at, 1)[0];
-                let part = |_| {
-                    let n = number(at) as usize;
-                    next(at, n)
-                };
-                (0..count).map(part).collect()
-            };
-            let inputs = parts(&mut at);
-            parts(&mut at);
-            number(&mut at);
-            let (low, place) = (number(&mut at), number(&mut at));
-            if operation == BUILD {
-                let steps = inputs[1].clone();
-                let due = (low as u8, low >> 8, place);
-                found.push(OfSteps { steps, due });
-            }
-        }
-        found
-    }
-
-    /// Every kind of step in a list that is answered; 12 and 7 at the first step and at later ones, 7 with places above 0.
-    #[test]
-    fn steps_of_every_kind_are_recorded_and_refused_where_they_stand() {
-        let (list, _) = recorded();
-        let calls = calls_with_steps(&list);
-        let mut kinds = BTreeSet::new();
-        for call in calls.iter().filter(|call| call.due.0 == 0) {
-            let mut rest = &call.steps[..];
-            while let Some(&kind) = rest.first() {
-                kinds.insert(kind);
-                Step::take(&mut rest).expect("it is answered");
-            }
-        }
-        assert_eq!(kinds, (1..=8).collect());
-        for (code, place_0) in [(12, true), (7, true), (7, false)] {
-            for first in [true, false] {
-                let here = |call: &&OfSteps| {
-                    let (no, index, place) = call.due;
-                    no == code && (index == 0) == first && (place == 0) == place_0
-                };
-                let count = calls.iter().filter(here).count();
-                assert!(
-                    count >= 2,
-                    "{code} at the first step: {first}, at place 0: {place_0}"
-                );
             }
         }
     }

@@ -11,7 +11,7 @@ use crate::rooms::Rooms;
 use crate::rows::choice::ENGINES;
 use crate::rows::many::singly;
 use crate::rows::spidering::chain;
-use crate::rows::{functions, ABOVE, GROUPS};
+use crate::rows::{functions, GROUPS, UNRECORDED};
 use crate::show::show;
 use std::collections::BTreeMap;
 use std::mem::{discriminant, Discriminant};
@@ -50,7 +50,11 @@ pub struct Run {
 
 /// All shares of a run.
 pub fn shares() -> u64 {
-    let groups: u64 = GROUPS.iter().chain(ABOVE).map(|group| group.share).sum();
+    let groups: u64 = GROUPS
+        .iter()
+        .chain(UNRECORDED)
+        .map(|group| group.share)
+        .sum();
     groups + chain::SHARE + singly::SHARE
 }
 
@@ -69,7 +73,7 @@ fn sweeping_steps(arguments: &Arguments, outcome: &Outcome) -> usize {
 pub fn run(seed: u64, amount: Amount) -> Result<bool, String> {
     println!("seed {seed}");
     let mut run = Run::start(seed, amount.full)?;
-    for group in GROUPS.iter().chain(ABOVE) {
+    for group in GROUPS.iter().chain(UNRECORDED) {
         let before = run.calls();
         let forms = run.group(group, amount);
         let calls = run.calls() - before;
@@ -90,7 +94,7 @@ impl Run {
     fn start(seed: u64, full: bool) -> Result<Self, String> {
         let rooms = Rooms::read()?;
         let mut by_number = BTreeMap::new();
-        for group in GROUPS.iter().chain(ABOVE) {
+        for group in GROUPS.iter().chain(UNRECORDED) {
             for function in functions(group, &rooms)? {
                 by_number.insert(function.operation.number, function);
             }

@@ -13,20 +13,19 @@ pub mod spidering;
 use crate::operation::{Function, Group};
 use crate::rooms::Rooms;
 
-/// The groups of the port's functions, in the order in which a run tries them.
+/// The groups of the port's functions that a recorded list has, in the order in which a run tries them.
 pub const GROUPS: &[Group] = &[
     reading::GROUP,
     building::GROUP,
     deleting::GROUP,
-    many::GROUP,
     merging::GROUP,
     choice::GROUP,
     once_fed::GROUP,
     spidering::GROUP,
 ];
 
-/// Those of archives above the port, which are in no recorded list.
-pub const ABOVE: &[Group] = &[pricing::GROUP];
+/// Those that are in no recorded list: of archives above the port, and calls with steps. A run tries them next.
+pub const UNRECORDED: &[Group] = &[pricing::GROUP, many::GROUP];
 
 /// A group's functions.
 pub fn functions(group: &Group, rooms: &Rooms) -> Result<Vec<Function>, String> {

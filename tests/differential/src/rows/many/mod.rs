@@ -1,4 +1,5 @@
-//! Many building and deleting steps in one call: what the original gives by one call for each.
+//! Many building and deleting steps in one call: what the original gives by one call for each. The replaying program makes no
+//! call with steps, so its row is in no recorded list.
 
 mod picked;
 pub mod singly;
