@@ -10,7 +10,7 @@ const USAGE: &str = "usage: differential [--full | --calls N] [--seed N]
        differential record FILE [--seed N]";
 
 /// About how many calls a quick run makes, and how many a full one makes for each share of a group.
-const QUICK_CALLS: u64 = 70_000;
+const QUICK_CALLS: u64 = 80_770;
 const FULL_CALLS_PER_SHARE: u64 = 500_000;
 
 fn main() -> ExitCode {
