@@ -2,7 +2,7 @@
 // and bounds it so that the next one has room: a number takes at most 20 bytes.
 #![tactic(auto)]
 
-ghost use Rattle.std.specs.Prelude.{◌≡◌, ◌++◌, ◌+◌, ◌<◌, ◌≤◌, length, take, true, IfOk};
+ghost use Rattle.std.specs.Prelude.{◌≡◌, [], ◌++◌, ◌+◌, ◌<◌, ◌≤◌, length, take, true, Some, IfOk};
 ghost use Rattle.std.specs.Io.KnownBytes.{Consumes, IsAtEnd};
 ghost use Rattle.io.specs.Counts.{IsPrefixLen};
 ghost use Rattle.text.specs.Text.{Printed, decimal, refused_line};
@@ -71,7 +71,8 @@ pub fn read_full<R: Read>(input: &mut R, buf: &mut [u8]) -> std::io::Result<usiz
 
 // Whether the input has ended. Where it has not, a byte of it is gone.
 pub fn is_ended<R: Read>(input: &mut R) -> std::io::Result<bool>
-    ensures { IfOk result (λ ended. ended ≡ true → IsAtEnd (R.remaining input.new)) }
+    ensures ended { IfOk result (λ ended. ended ≡ true → IsAtEnd (R.remaining input.new)) }
+    ensures told { IfOk result (λ ended. R.remaining input.old ≡ Some [] → ended ≡ true) }
 {
     let mut spare = [0u8; 1];
     let n = input.read(&mut spare)?;
