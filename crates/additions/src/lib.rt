@@ -1,20 +1,20 @@
 // Building in the tables of a room: what is new is stored behind the last entry of each table. A stored graph is loaded edge by edge in the same way.
 #![tactic(auto)]
 
-ghost use Rattle.std.specs.Prelude.{◌≡◌, [], ◌∷◌, ◌+◌, ◌*◌, ◌-◌, ◌<◌, ◌≤◌, ◌^◌, length, set};
+ghost use Rattle.std.specs.Prelude.{◌≡◌, [], ◌∷◌, ◌+◌, ◌*◌, ◌-◌, ◌<◌, ◌≤◌, ◌^◌, List, ℕ, length, get_or, set};
 ghost use Rattle.std.proofs.lemmas.List.Edits.{sets};
 ghost use Rattle.le.specs.Le.{Below, words};
 ghost use Rattle.le.specs.Rows.{Holds, span};
 ghost use Rattle.graph.specs.Graph.{largest};
 ghost use Rattle.graph.specs.Build as build;
 ghost use Rattle.graph.specs.Form.{edge_start};
-ghost use Rattle.graph.specs.Lists.{flat, range};
-ghost use Rattle.form.specs.Stored.{Stored, graph_of};
+ghost use Rattle.graph.specs.Lists.{flat};
+ghost use Rattle.form.specs.Drawn.{graph_in};
 ghost use Rattle.ledger.specs.Tables.{log_at, labels_at, room_ledger};
 ghost use Rattle.ledger.specs.Ledger.{drawing, Sound, Draws, more, ports_of};
 ghost use Rattle.additions.specs.Loaded.{without_edges, loaded_to};
 
-use form::Sizes;
+use form::{Drawing, Sizes};
 use le::Row;
 
 // n numbers of a row as the words from `off` on.
@@ -38,28 +38,20 @@ fn put_pair(room: &mut [u8], off: usize, a: u32, b: u32)
     le::set_word(room, off + 1, b);
 }
 
-// n ports of a half in the log, after so many: their nodes are numbers of a row.
-fn log_ids(room: &mut [u8], ports: usize, half: usize, s: &[u8], r: Row, j: usize, n: usize)
-    requires { Holds s.now r (j + n) × (ports + n ≤ largest.most_ports) × (half < 2 ^ 32) × (room_ledger ≤ length room.old) }
-    ensures { words room.new ≡ sets (words room.old) (log_at + 2 * ports) (flat (ports_of half (span s.now r j n))) }
-{
-    for k in 0..n {
-        let id = le::number(s, r, j + k);
-        put_pair(room, ledger::LOG + 2 * (ports + k), half as u32, id as u32);
-    }
-}
-
-// The same, where their nodes are numbered on.
-fn log_range(room: &mut [u8], ports: usize, half: usize, from: usize, n: usize)
-    requires { (ports + n ≤ largest.most_ports) × (half < 2 ^ 32) × (from + n < 2 ^ 32) × (room_ledger ≤ length room.old) }
-    ensures { words room.new ≡ sets (words room.old) (log_at + 2 * ports) (flat (ports_of half (range from n))) }
+// n ports of a half in the log, after so many: of each, from the first on, `node` gives its node.
+fn log_ports<F: Fn(usize) -> usize>(room: &mut [u8], ports: usize, half: usize, n: usize, node: F)
+    requires fits { (ports + n ≤ largest.most_ports) × (half < 2 ^ 32) × (room_ledger ≤ length room.old) }
+    requires given { (k : ℕ) → k < n → F.pre node k }
+    requires low { (k id : ℕ) → k < n → F.post node k id → id < 2 ^ 32 }
+    ensures { (ids : List ℕ) → length ids ≡ n → ((k id : ℕ) → k < n → F.post node k id → id ≡ get_or ids k 0)
+        → words room.new ≡ sets (words room.old) (log_at + 2 * ports) (flat (ports_of half ids)) }
 {
     for k in 0..n {
         put_pair(
             room,
             ledger::LOG + 2 * (ports + k),
             half as u32,
-            (from + k) as u32,
+            node(k) as u32,
         );
     }
 }
@@ -90,16 +82,11 @@ pub fn add_edge(
 {
     let half = 2 * z.edges;
     le::set_word(room, ledger::EDGE_LABELS + z.edges, label);
-    log_ids(room, z.ports, half, s, r, j, sources);
-    log_ids(
-        room,
-        z.ports + sources,
-        half + 1,
-        s,
-        r,
-        j + sources,
-        targets,
-    );
+    log_ports(room, z.ports, half, sources, |k| le::number(s, r, j + k));
+    let from = j + sources;
+    log_ports(room, z.ports + sources, half + 1, targets, |k| {
+        le::number(s, r, from + k)
+    });
 }
 
 // One more edge between new nodes, whose labels are numbers of a row.
@@ -121,14 +108,9 @@ pub fn add_operation(
     let half = 2 * z.edges;
     put_words(room, ledger::LABELS + z.nodes, s, r, 0, sources + targets);
     le::set_word(room, ledger::EDGE_LABELS + z.edges, label);
-    log_range(room, z.ports, half, z.nodes, sources);
-    log_range(
-        room,
-        z.ports + sources,
-        half + 1,
-        z.nodes + sources,
-        targets,
-    );
+    log_ports(room, z.ports, half, sources, |k| z.nodes + k);
+    let from = z.nodes + sources;
+    log_ports(room, z.ports + sources, half + 1, targets, |k| from + k);
 }
 
 // One more pending pair.
@@ -166,34 +148,27 @@ pub fn add_target(room: &mut [u8], z: Sizes, edge: usize, label: u32)
 
 // ---- loading
 
-// The sizes of a stored graph with its first edges alone.
-fn with_edges(z: Sizes, edges: usize, ports: usize) -> Sizes
-    ensures { result ≡ without_edges z edges ports }
-{
-    Sizes {
-        width: z.width,
-        nodes: z.nodes,
-        edges,
-        ports,
-        sources: z.sources,
-        targets: z.targets,
-        pairs: z.pairs,
-    }
-}
-
 // The node labels, global lists and pairs of a stored graph.
-fn load_lists(room: &mut [u8], src: &[u8], z: Sizes)
-    requires { Stored src.now z × (room_ledger ≤ length room.old) }
-    ensures { Draws (words room.new) (without_edges z 0 0) (loaded_to (graph_of src.now) 0) }
+fn load_lists(room: &mut [u8], drawing: Drawing<'_>)
+    requires { room_ledger ≤ length room.old }
+    ensures { Draws (words room.new) (without_edges drawing.entry.sizes 0 0) (loaded_to (graph_in drawing.entry) 0) }
 {
-    let body = form::body_row(z);
-    let lists = 2 * z.edges + z.ports;
-    put_words(room, ledger::LABELS, src, form::label_row(z), 0, z.nodes);
-    put_words(room, ledger::SOURCES, src, body, lists, z.sources);
+    let z = drawing.sizes;
+    let body = drawing.body();
+    let lists = drawing.lists();
+    put_words(
+        room,
+        ledger::LABELS,
+        drawing.src,
+        drawing.labels(),
+        0,
+        z.nodes,
+    );
+    put_words(room, ledger::SOURCES, drawing.src, body, lists, z.sources);
     put_words(
         room,
         ledger::TARGETS,
-        src,
+        drawing.src,
         body,
         lists + z.sources,
         z.targets,
@@ -201,7 +176,7 @@ fn load_lists(room: &mut [u8], src: &[u8], z: Sizes)
     put_words(
         room,
         ledger::PAIRS,
-        src,
+        drawing.src,
         body,
         lists + z.sources + z.targets,
         2 * z.pairs,
@@ -209,21 +184,25 @@ fn load_lists(room: &mut [u8], src: &[u8], z: Sizes)
 }
 
 // Edge i of a stored graph, which begins at index k; answered is where the next edge begins.
-fn load_edge(room: &mut [u8], src: &[u8], z: Sizes, i: usize, k: usize) -> usize
-    requires stored { Stored src.now z × (i < z.edges) × (k ≡ edge_start (graph_of src.now).edges i) × (room_ledger ≤ length room.old) }
-    requires draws { Draws (words room.old) (without_edges z i (k - 2 * i)) (loaded_to (graph_of src.now) i) }
-    ensures { (result ≡ edge_start (graph_of src.now).edges (i + 1))
-        × Draws (words room.new) (without_edges z (i + 1) (result - 2 * (i + 1))) (loaded_to (graph_of src.now) (i + 1)) }
+fn load_edge(room: &mut [u8], drawing: Drawing<'_>, i: usize, k: usize) -> usize
+    requires stored { (i < drawing.sizes.edges) × (k ≡ edge_start (graph_in drawing).edges i) × (room_ledger ≤ length room.old) }
+    requires draws { Draws (words room.old) (without_edges drawing.sizes i (k - 2 * i)) (loaded_to (graph_in drawing) i) }
+    ensures { (result ≡ edge_start (graph_in drawing.entry).edges (i + 1))
+        × Draws (words room.new) (without_edges drawing.entry.sizes (i + 1) (result - 2 * (i + 1))) (loaded_to (graph_in drawing.entry) (i + 1)) }
 {
-    let body = form::body_row(z);
-    let e = form::edge_at(src, body, k);
-    let label = le::number(src, form::label_row(z), z.nodes + i);
-    let y = with_edges(z, i, k - 2 * i);
+    let body = drawing.body();
+    let e = form::edge_at(drawing.src, body, k);
+    let label = le::number(drawing.src, drawing.labels(), drawing.sizes.nodes + i);
+    let y = Sizes {
+        edges: i,
+        ports: k - 2 * i,
+        ..drawing.sizes
+    };
     add_edge(
         room,
         y,
         label as u32,
-        src,
+        drawing.src,
         body,
         e.first,
         e.sources,
@@ -233,13 +212,13 @@ fn load_edge(room: &mut [u8], src: &[u8], z: Sizes, i: usize, k: usize) -> usize
 }
 
 // A stored graph.
-pub fn load(room: &mut [u8], src: &[u8], z: Sizes)
-    requires { Stored src.now z × (room_ledger ≤ length room.old) }
-    ensures { Draws (words room.new) z (graph_of src.now) }
+pub fn load(room: &mut [u8], drawing: Drawing<'_>)
+    requires { room_ledger ≤ length room.old }
+    ensures { Draws (words room.new) drawing.entry.sizes (graph_in drawing.entry) }
 {
-    load_lists(room, src, z);
+    load_lists(room, drawing);
     let mut k: usize = 0;
-    for i in 0..z.edges {
-        k = load_edge(room, src, z, i, k);
+    for i in 0..drawing.sizes.edges {
+        k = load_edge(room, drawing, i, k);
     }
 }

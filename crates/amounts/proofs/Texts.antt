@@ -2,7 +2,7 @@
 -- Assumes nothing.
 use mathlib.Core.Path.{◌≡◌, refl, sym, ap, subst, ◌∙◌}
 use mathlib.Core.List.{List, [], ◌∷◌, ◌++◌, append-nil}
-use Prim.Native.Nat.{ℕ, ◌+◌, ◌/◌, ◌%◌}
+use Prim.Native.Nat.{ℕ, ◌+◌, ◌-◌, ◌/◌, ◌%◌, ◌≤◌}
 use native.Mathlib.Nat.{add-zero}
 use native.Mathlib.Omega.{arith}
 use Rattle.graph.specs.Lists.{joined, range}
@@ -33,9 +33,12 @@ module _ (line : ℕ → List ℕ) where
   printed_none a at = record { holds = refl; ends = sym (add-zero at) }
 
   -- one more
-  pub printed_more : {a b c : List ℕ} {at mid next : ℕ} (k : ℕ) → Printed a at (joined line (range 1 k)) b mid → Printed b mid (line (k + 1)) c next → Printed a at (joined line (range 1 (k + 1))) c next
-  printed_more {a} {b} {c} {at} {mid} {next} k p q =
-      let e : k + 1 ≡ 1 + k = omega arith in
-      let more : joined line (range 1 (k + 1)) ≡ joined line (range 1 k) ++ line (k + 1) =
-      ap (joined line) (range_add 1 k 1) ∙ joined_append line (range 1 k) ((1 + k) ∷ []) ∙ ap (λ (l : List ℕ). joined line (range 1 k) ++ l) (append-nil (line (1 + k)) ∙ ap line (sym e)) in
-      subst (λ (l : List ℕ). Printed a at l c next) (sym more) (printed_then (joined line (range 1 k)) (line (k + 1)) p q)
+  pub printed_more : {a b c : List ℕ} {at mid next : ℕ} (k : ℕ) → 1 ≤ k → Printed a at (joined line (range 1 (k - 1))) b mid → Printed b mid (line k) c next → Printed a at (joined line (range 1 (k + 1 - 1))) c next
+  printed_more {a} {b} {c} {at} {mid} {next} k l p q =
+      let n : ℕ = k - 1 in
+      let e : 1 + n ≡ k = omega arith in
+      let m : k + 1 - 1 ≡ n + 1 = omega arith in
+      let more : joined line (range 1 (k + 1 - 1)) ≡ joined line (range 1 n) ++ line k =
+      ap (λ (m : ℕ). joined line (range 1 m)) m ∙ ap (joined line) (range_add 1 n 1) ∙ joined_append line (range 1 n) ((1 + n) ∷ [])
+      ∙ ap (λ (l : List ℕ). joined line (range 1 n) ++ l) (append-nil (line (1 + n)) ∙ ap line e) in
+      subst (λ (l : List ℕ). Printed a at l c next) (sym more) (printed_then (joined line (range 1 n)) (line k) p q)

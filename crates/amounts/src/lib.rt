@@ -19,7 +19,7 @@ pub fn put_amount(out: &mut [u8], at: usize, n: u64) -> usize
 {
     let whole = put_number(out, at, (n / 100) as usize);
     let dot = put_text(out, whole, b".");
-    let decimals = [48 + (n % 100 / 10) as u8, 48 + (n % 10) as u8];
+    let decimals = [b'0' + (n % 100 / 10) as u8, b'0' + (n % 10) as u8];
     put_text(out, dot, &decimals)
 }
 
@@ -35,20 +35,29 @@ fn put_rest(out: &mut [u8], at: usize, count: usize, cost: u64) -> usize
     put_text(out, costs, b"\n")
 }
 
-// How long the name of each kind is.
-const NAME_LENGTHS: [usize; 12] = [7, 8, 6, 4, 12, 4, 8, 5, 7, 8, 6, 10];
+// The names of the kinds 1 to 12.
+const NAMES: [&str; 12] = [
+    "receive",
+    "transmit",
+    "parser",
+    "hash",
+    "server table",
+    "pick",
+    "rewriter",
+    "probe",
+    "counter",
+    "splitter",
+    "joiner",
+    "flow store",
+];
 
-// The name of a kind: each has 12 bytes in the text, filled up with spaces.
+// The name of a kind.
 fn put_name(out: &mut [u8], at: usize, label: usize) -> usize
     requires { InCatalogue label × (at + 12 ≤ length out.old) }
     ensures printed { Printed out.old at (ascii (kind_of label).name) out.new result }
     ensures upper_bound { result ≤ at + 12 }
 {
-    let names =
-        b"receive     transmit    parser      hash        server tablepick        rewriter    probe       counter     splitter    joiner      flow store  ";
-    let n = NAME_LENGTHS[label - 1];
-    le::copy(out, at, names, 12 * (label - 1), n);
-    at + n
+    put_text(out, at, NAMES[label - 1].as_bytes())
 }
 
 // The line of a kind.
@@ -73,9 +82,9 @@ pub fn put_kinds(out: &mut [u8], at: usize, counts: &[u32; 12]) -> usize
     ensures printed { Printed out.old at (joined (kind_line counts.now) kinds) out.new result }
     ensures upper_bound { result ≤ at + 12 * 58 }
 {
-    let mut next: usize = at;
-    for k in 0..12 {
-        next = put_kind(out, next, counts, k + 1);
+    let mut next = at;
+    for label in 1..=12 {
+        next = put_kind(out, next, counts, label);
     }
     next
 }

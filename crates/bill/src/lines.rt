@@ -15,8 +15,7 @@ pub fn put_list(out: &mut [u8], list: Bill) -> usize
     ensures printed { Printed out.old 0 (list_text list.counts list.buffers list.total) out.new result }
     ensures prefix_len { IsPrefixLen result out.new }
 {
-    let counts = list.counts;
-    let kinds = put_kinds(out, 0, &counts);
+    let kinds = put_kinds(out, 0, &list.counts);
     let lines = put_buffers(out, kinds, list.buffers);
     let total = put_text(out, lines, b"total ");
     let costs = put_amount(out, total, list.total);

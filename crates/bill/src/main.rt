@@ -11,7 +11,6 @@ ghost use Rattle.catalogue.specs.Price.{room_price};
 ghost use Rattle.text.specs.Text.{Printed};
 ghost use Rattle.bill.specs.Bill.{bill_text, bill_room};
 
-use form::Step;
 use lines::put_list;
 use text::put_refusal;
 
@@ -21,13 +20,10 @@ fn bill(src: &[u8], room: &mut [u8], out: &mut [u8]) -> usize
     ensures printed { Printed out.old 0 (bill_text src.now) out.new result }
     ensures prefix_len { IsPrefixLen result out.new }
 {
-    let priced = parts::price_drawing(src, room);
-    let step = priced.step;
-    let Step::Number(_) = step else {
-        return put_refusal(out, step.refusal());
-    };
-    let list = priced.bill;
-    put_list(out, list)
+    match parts::price_drawing(src, room) {
+        Ok(list) => put_list(out, list),
+        Err(refusal) => put_refusal(out, refusal),
+    }
 }
 
 // A mebibyte of zeros. The `ensures` gives only the length, which lending the array as a slice needs.

@@ -16,8 +16,7 @@ use Rattle.le.proofs.Numbers.{below_drop, below_front, below_back, number_take, 
 use Rattle.graph.specs.Lists.{joined}
 use Rattle.graph.specs.Answer.{Answer, refused, answered, Refusal, refusal, ◌else◌, ◌>>=◌, ◌>>◌}
 use Rattle.graph.proofs.Steps.{never, same_answer, passed, came, stops, goes}
-use Rattle.form.specs.Form.{tested, refusal_of}
-use Rattle.form.specs.declared.Step.TheVariants as step
+use Rattle.form.specs.Form.{tested}
 use Rattle.catalogue.specs.Range.{first_length, drawings_in, most_drawings}
 use Rattle.catalogue.specs.Slices.{prefixed, Short, SliceOf}
 
@@ -177,7 +176,7 @@ pub none_passed : (b : List ℕ) → Passed b 0 0
 none_passed b = record { within = omega arith; few = omega arith; decided = refl }
 
 module _ {b : List ℕ} {at count : ℕ} (p : Passed b at count) where
-  pub all_passed : length b ≤ at → step.Number 0 ≡ tested (drawings_in most_drawings b)
+  pub all_passed : length b ≤ at → answered tt ≡ tested (drawings_in most_drawings b)
   all_passed l =
       let e : length (drop at b) ≡ 0 = simp length-drop (omega arith) in
       sym (p.decided ∙ ap tested (drawings_end (drop at b) (most_drawings - count) e))
@@ -186,7 +185,7 @@ module _ {b : List ℕ} {at count : ℕ} (p : Passed b at count) where
     more : 0 < length (drop at b)
     more = simp length-drop (omega arith)
 
-    pub too_many : count ≡ most_drawings → step.Refused (record { no = 17; place = 0 }) ≡ tested (drawings_in most_drawings b)
+    pub too_many : count ≡ most_drawings → refused (refusal 17) ≡ tested (drawings_in most_drawings b)
     too_many e =
         let z : most_drawings - count ≡ 0 = omega arith in
         sym (p.decided ∙ ap (λ (k : ℕ). tested (drawings_in k (drop at b))) z ∙ ap tested (drawings_full (drop at b) more))
@@ -200,7 +199,7 @@ module _ {b : List ℕ} {at count : ℕ} (p : Passed b at count) where
           let z : most_drawings - count ≡ suc (most_drawings - (count + 1)) = omega (arith, fewer) in
           p.decided ∙ ap (λ (k : ℕ). tested (drawings_in k (drop at b))) z ∙ ap tested (drawings_step (drop at b) (most_drawings - (count + 1)) more)
 
-      pub length_refused : (r : Refusal) → first_length (drop at b) ≡ refused r → step.Refused (refusal_of r) ≡ tested (drawings_in most_drawings b)
+      pub length_refused : (r : Refusal) → first_length (drop at b) ≡ refused r → refused r ≡ tested (drawings_in most_drawings b)
       length_refused r e = sym (one_more ∙ ap tested (stops (onward (most_drawings - (count + 1)) (drop at b)) e))
 
       pub one_passed : (n : ℕ) → first_length (drop at b) ≡ answered n → Passed b (at + 4 + n) (count + 1)

@@ -6,6 +6,7 @@ use mathlib.Core.Path.{◌≡◌, sym, ap, ◌∙◌, subst}
 use Prim.Native.Nat.{ℕ, ◌+◌, ◌*◌, ◌<◌}
 use native.Mathlib.Omega.{arith}
 use lib.ListN.{length, get_or}
+use Rattle.std.specs.Prelude.{Ok, Err}
 use Rattle.le.specs.Le.{Below}
 use Rattle.le.specs.Rows.{span}
 use Rattle.le.specs.declared.Row.{Row}
@@ -18,24 +19,33 @@ use Rattle.graph.proofs.Lists.{get_d_range}
 use Rattle.graph.proofs.Merged.{merged_count, quotient_answer, quotient_unpaired}
 use Rattle.graph.proofs.Steps.{never}
 use Rattle.graph.proofs.WriteRead.{paired_flat}
-use Rattle.form.specs.Form.{body_of, labels_of, refusal_of}
-use Rattle.form.specs.Stored.{Stored, graph_of}
+use Rattle.form.specs.Form.{body_of, labels_of, lists_from}
+use Rattle.form.specs.Drawn.{graph_in}
+use Rattle.form.specs.Stored.{Stored}
+use Rattle.form.specs.declared.Drawing.{Drawing}
 use Rattle.form.specs.declared.Sizes.{Sizes}
-use Rattle.form.specs.declared.Step.TheVariants as step
+use Rattle.form.specs.declared.Refusal.TheVariants as why
+use Rattle.form.proofs.Drawn.{stored_in}
 use Rattle.form.proofs.Stored.{stored_rows, stored_known, nodes_are}
-use Rattle.classes.specs.Forest.{Falls, Forest, Tabled, Names, told, MapMade}
+use Rattle.classes.specs.Forest.{Falls, Forest, Tabled, Names, class_count, MapMade}
 use Rattle.classes.proofs.Numbering.{leaders_named, names_fall}
 
-module _ (b : List ℕ) (z : Sizes) (st : Stored b z) (body : Row) (eb : body ≡ body_of z) where
-  abbrev g : Graph
-  g = graph_of b
+-- pairs_from: the index of the first pair's id
+module _ (d : Drawing) (body : Row) (eb : body ≡ body_of d.sizes) (pairs_from : ℕ) (ep : pairs_from ≡ lists_from d.sizes + d.sizes.sources + d.sizes.targets) where
+  abbrev b : List ℕ
+  b = d.src.now
 
-  -- the index of the first pair's id
-  abbrev pub pairs_from : ℕ
-  pairs_from = 2 * z.edges + z.ports + z.sources + z.targets
+  abbrev z : Sizes
+  z = d.sizes
+
+  abbrev g : Graph
+  g = graph_in d
+
+  st : Stored b z
+  st = stored_in d
 
   pub pair_ids_lem : span b body pairs_from (2 * z.pairs) ≡ flat g.pairs
-  pair_ids_lem = ap (λ (r : Row). span b r pairs_from (2 * z.pairs)) eb ∙ (stored_rows st).pairs
+  pair_ids_lem = (λ i. span b (eb i) (ep i) (2 * z.pairs)) ∙ (stored_rows st).pairs
 
   pub pair_ids_below : Below z.nodes (span b body pairs_from (2 * z.pairs))
   pair_ids_below = rw pair_ids_lem (stored_known st).pairs
@@ -68,26 +78,28 @@ module _ (b : List ℕ) (z : Sizes) (st : Stored b z) (body : Row) (eb : body �
       answers e = rw e
 
       pub map_differs : false ≡ same (looked (span b labels 0 z.nodes) (classes g)) (span b labels 0 z.nodes)
-          → (Y : List ℕ) → MapMade g Y (step.Refused (refusal_of (refusal 11)))
+          → (Y : List ℕ) → MapMade g Y (Err why.LabelsDiffer)
       map_differs e Y =
           let r = refuses (agree_of ∙ sym e) in
-          record { answer = ap told (sym r); map = λ k q. absurd (never (sym r ∙ q)) }
+          record { answer = ap class_count (sym r); map = λ k q. absurd (never (sym r ∙ q)) }
 
       pub map_made : true ≡ same (looked (span b labels 0 z.nodes) (classes g)) (span b labels 0 z.nodes)
-          → (Y : List ℕ) (count : ℕ) → count ≡ new_id (absorbed (classes g)) z.nodes → Tabled z.nodes (numbered (classes g)) Y → MapMade g Y (step.Number count)
+          → (Y : List ℕ) (count : ℕ) → count ≡ new_id (absorbed (classes g)) z.nodes → Tabled z.nodes (numbered (classes g)) Y → MapMade g Y (Ok count)
       map_made e Y count c k =
           let a = answers (agree_of ∙ sym e) in
           record {
             answer =
-                ap step.Number (c ∙ ap (new_id (absorbed (classes g))) (sym nodes) ∙ sym (merged_count g (subst (λ (n : ℕ). Below n (flat g.pairs)) (sym nodes) (stored_known st).pairs)))
-                ∙ ap told (sym a);
+                ap answered (c ∙ ap (new_id (absorbed (classes g))) (sym nodes) ∙ sym (merged_count g (subst (λ (n : ℕ). Below n (flat g.pairs)) (sym nodes) (stored_known st).pairs)))
+                ∙ ap class_count (sym a);
             map = λ m q. subst (λ (y : Merged). Tabled (length g.labels) y.ids Y) (quotient_answer g m q).1 (subst (λ (n : ℕ). Tabled n (numbered (classes g)) Y) (sym nodes) k);
           }
 
 -- without pairs each node is its own class
-pub map_unpaired : (b : List ℕ) (z : Sizes) (st : Stored b z) → z.pairs ≡ 0 → (X : List ℕ) → Forest z.nodes (range 0 z.nodes) X → MapMade (graph_of b) X (step.Number z.nodes)
-map_unpaired b z st none X f =
-    let g = graph_of b in
+pub map_unpaired : (d : Drawing) → d.sizes.pairs ≡ 0 → (X : List ℕ) → Forest d.sizes.nodes (range 0 d.sizes.nodes) X → MapMade (graph_in d) X (Ok d.sizes.nodes)
+map_unpaired d none X f =
+    let z = d.sizes in
+    let st = stored_in d in
+    let g = graph_in d in
     let n = nodes_are (stored_rows st) in
     let q = quotient_unpaired g st.formed.proper (sym (ap (λ (y : Sizes). y.pairs) st.sizes) ∙ none) in
     let own : Tabled z.nodes (range 0 z.nodes) X = record {
@@ -97,7 +109,7 @@ map_unpaired b z st none X f =
           sym (omega (arith, get_d_range 0 z.nodes (get_or X v 0) e)) ∙ f.class v l;
     } in
     record {
-      answer = ap step.Number (sym n) ∙ ap told (sym q);
+      answer = ap answered (sym n) ∙ ap class_count (sym q);
       map = λ m k.
           let same : m ≡ record { graph = g; ids = range 0 (length g.labels) } = cc in
           subst (λ (y : Merged). Tabled (length g.labels) y.ids X) (sym same) (subst (λ (k : ℕ). Tabled k (range 0 k) X) (sym n) own);

@@ -1,13 +1,12 @@
 -- 02, T-01: the classes while they are found, in the first words of the work room. A word for each node holds a node of its class that is not above it.
 -- Assumes nothing.
-use Rattle.std.specs.Prelude.{◌≡◌, List, ℕ, ◌≤◌, ◌<◌, cond, eqb, length, get_or}
+use Rattle.std.specs.Prelude.{◌≡◌, List, ℕ, ◌≤◌, ◌<◌, Result, cond, eqb, length, get_or}
 use Rattle.graph.specs.Delete.{new_id}
-use Rattle.graph.specs.Answer.{Answer, refused, answered}
+use Rattle.graph.specs.Answer.{Answer, answered}
 use Rattle.graph.specs.Graph.{Graph}
 use Rattle.graph.specs.Merge.{united, absorbed, Merged, quotient}
-use Rattle.form.specs.Form.{refusal_of}
-use Rattle.form.specs.declared.Step.{Step}
-use Rattle.form.specs.declared.Step.TheVariants as step
+use Rattle.form.specs.Form.{told, telling}
+use Rattle.form.specs.declared.Refusal.{Refusal}
 
 -- no word of a node is above it
 pub record Falls (n : ℕ) (W : List ℕ) : Type 0 where
@@ -72,11 +71,10 @@ pub record Counted (n : ℕ) (W X : List ℕ) (k count : ℕ) : Type 0 where
 -- ---- what merging finds
 
 -- the refusal, or how many classes there are
-abbrev pub told : Answer Merged → Step
-told (refused r) = step.Refused (refusal_of r)
-told (answered m) = step.Number (length m.graph.labels)
+abbrev pub class_count : Answer Merged → Answer ℕ
+class_count = telling (λ m. length m.graph.labels)
 
 -- the answer tells of the graph whether it can be merged, and then the first words are the map
-pub record MapMade (g : Graph) (X : List ℕ) (r : Step) : Type 0 where
-  pub answer : r ≡ told (quotient g)
+pub record MapMade (g : Graph) (X : List ℕ) (r : Result ℕ Refusal) : Type 0 where
+  pub answer : told r ≡ class_count (quotient g)
   pub map : (m : Merged) → quotient g ≡ answered m → Tabled (length g.labels) m.ids X

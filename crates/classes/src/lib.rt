@@ -8,10 +8,10 @@ ghost use Rattle.le.specs.Rows.{Holds, entry, span};
 ghost use Rattle.graph.specs.Lists.{range, same, paired};
 ghost use Rattle.graph.specs.Merge.{leaders, looked, absorbed, numbered};
 ghost use Rattle.graph.specs.Delete.{new_id};
-ghost use Rattle.form.specs.Stored.{graph_of, Stored};
+ghost use Rattle.form.specs.Drawn.{graph_in};
 ghost use Rattle.classes.specs.Forest.{Falls, Forest, Tabled, Found, Joins, Names, number_of, MapMade};
 
-use form::{Refusal, Sizes, Step};
+use form::{Drawing, Refusal};
 use le::Row;
 
 // The least member of v's class; every other node of the path to it is passed by from now on.
@@ -64,9 +64,7 @@ fn join_all(room: &mut [u8], n: usize, src: &[u8], r: Row, k: usize, m: usize)
     requires forest { Forest n (range 0 n) (words room.old) }
     ensures { Forest n (leaders n (paired (span src.now r k (2 * m)))) (words room.new) }
 {
-    let mut j = m;
-    while 0 < j {
-        j = j - 1;
+    for j in (0..m).rev() {
         let at = k + 2 * j;
         let v = le::number(src, r, at);
         let w = le::number(src, r, at + 1);
@@ -150,28 +148,30 @@ fn agree(room: &[u8], n: usize, src: &[u8], r: Row) -> bool
 }
 
 // The map of merging for a graph with pairs, as `map_classes` answers it.
-fn map_joined(src: &[u8], z: Sizes, room: &mut [u8]) -> Step
-    requires { Stored src.now z × (4 * z.nodes ≤ length room.old) }
-    ensures { MapMade (graph_of src.now) (words room.new) result }
+fn map_joined(drawing: Drawing<'_>, room: &mut [u8]) -> Result<usize, Refusal>
+    requires { 4 * drawing.sizes.nodes ≤ length room.old }
+    ensures { MapMade (graph_in drawing.entry) (words room.new) result }
 {
-    let pairs = 2 * z.edges + z.ports + z.sources + z.targets;
-    find_leaders(room, z.nodes, src, form::body_row(z), pairs, z.pairs);
-    if !agree(room, z.nodes, src, form::label_row(z)) {
-        return Step::Refused(Refusal { no: 11, place: 0 });
+    let z = drawing.sizes;
+    let pairs = drawing.lists() + z.sources + z.targets;
+    find_leaders(room, z.nodes, drawing.src, drawing.body(), pairs, z.pairs);
+    if !agree(room, z.nodes, drawing.src, drawing.labels()) {
+        return Err(Refusal::LabelsDiffer);
     }
     let count = number_classes(room, z.nodes);
-    Step::Number(count)
+    Ok(count)
 }
 
 // The map of merging, in the first words of the room: of each node of a stored graph the number of its class. Answered is how many classes there are, or
 // 11: two nodes of one class have different labels. Without pairs each node is its own class, and nothing is looked for.
-pub fn map_classes(src: &[u8], z: Sizes, room: &mut [u8]) -> Step
-    requires { Stored src.now z × (4 * z.nodes ≤ length room.old) }
-    ensures { MapMade (graph_of src.now) (words room.new) result }
+pub fn map_classes(drawing: Drawing<'_>, room: &mut [u8]) -> Result<usize, Refusal>
+    requires { 4 * drawing.sizes.nodes ≤ length room.old }
+    ensures { MapMade (graph_in drawing.entry) (words room.new) result }
 {
+    let z = drawing.sizes;
     if z.pairs == 0 {
         start(room, z.nodes);
-        return Step::Number(z.nodes);
+        return Ok(z.nodes);
     }
-    map_joined(src, z, room)
+    map_joined(drawing, room)
 }

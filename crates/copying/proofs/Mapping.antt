@@ -36,12 +36,3 @@ entries_split es i = sym (joined_split (λ (e : Edge). e.sources ++ e.targets) i
 
 pub entries_within : (es : List Edge) (i : ℕ) → length (edge_entries (take i es)) ≤ length (edge_entries es)
 entries_within es i = omega (arith, ap length (entries_split es i) ∙ length-append (edge_entries (take i es)) (edge_entries (drop i es)))
-
--- the classes of an edge's entries are among those of all
-pub looked_part : (W : List ℕ) (es : List Edge) (i nodes : ℕ) (ids : List ℕ) → edge_entries (take (i + 1) es) ≡ edge_entries (take i es) ++ ids → Below nodes (looked W (edge_entries es)) → Below nodes (looked W ids)
-looked_part W es i nodes ids e h =
-    let A = edge_entries (take i es) in
-    let R = edge_entries (drop (i + 1) es) in
-    let split : looked W (edge_entries es) ≡ (looked W A ++ looked W ids) ++ looked W R =
-    ap (looked W) (entries_split es (i + 1)) ∙ looked_append W (edge_entries (take (i + 1) es)) R ∙ ap (λ (xs : List ℕ). looked W xs ++ looked W R) e ∙ ap (λ (xs : List ℕ). xs ++ looked W R) (looked_append W A ids) in
-    below_back nodes (looked W A) (looked W ids) (below_front nodes (looked W A ++ looked W ids) (looked W R) (subst (Below nodes) split h))

@@ -10,7 +10,8 @@ use Rattle.graph.specs.Form.{edge_row}
 use Rattle.graph.specs.Merge.{merged}
 use Rattle.form.specs.Form.{body_of, lists_from}
 use Rattle.form.specs.declared.Sizes.{Sizes}
-use Rattle.form.specs.Stored.{graph_of}
+use Rattle.form.specs.Drawn.{graph_in}
+use Rattle.form.specs.declared.Drawing.{Drawing}
 use Rattle.quotient.specs.Merging.{Mapped}
 use Rattle.links.specs.Links.{cells, is_listed, Heads, Linked}
 use Rattle.rewriting.specs.Rewriting.{spidered, fronted}
@@ -27,26 +28,30 @@ pub record Lists (nodes : ℕ) (room : List ℕ) (listed : ℕ → Bool) (new : 
   pub heads : Heads nodes (cells (table_of new)) listed
   pub map : (v : ℕ) → v < largest.most.nodes → get_or (words new) v 0 ≡ get_or (words room) v 0
 
--- the merged graph of stored bytes
-abbrev pub merged_of : List ℕ → Graph
-merged_of b = (merged (graph_of b)).graph
+-- the merged graph of a stored one
+abbrev pub merged_of : Drawing → Graph
+merged_of d = (merged (graph_in d)).graph
 
 -- that graph, spiderized at the nodes that the table of a room lists
-abbrev pub spidered_of : List ℕ → ℕ → List ℕ → Graph
-spidered_of b nodes room = spidered (merged_of b) nodes (cells (table_of room))
+abbrev pub spidered_of : Drawing → ℕ → List ℕ → Graph
+spidered_of d nodes room = spidered (merged_of d) nodes (cells (table_of room))
 
 -- how many of that graph's entries are of nodes that the table lists
-abbrev pub fresh_of : List ℕ → ℕ → List ℕ → ℕ
-fresh_of b nodes room =
+abbrev pub fresh_of : Drawing → ℕ → List ℕ → ℕ
+fresh_of d nodes room =
     let listed = is_listed nodes (cells (table_of room)) in
-    length (keep listed (edge_entries (merged_of b).edges)) + length (keep listed ((merged_of b).sources ++ (merged_of b).targets))
+    length (keep listed (edge_entries (merged_of d).edges)) + length (keep listed ((merged_of d).sources ++ (merged_of d).targets))
+
+-- what a look-up of an id below n may give is its entry in a map, which is below a count of nodes
+abbrev pub LooksUp : (ℕ → ℕ → Type 0) → ℕ → List ℕ → ℕ → Type 0
+LooksUp gives n map nodes = (id v : ℕ) → id < n → gives id v → (v ≡ get_or map id 0) × (v < nodes)
 
 -- a stored graph whose map of merging stands in a room; the table behind it lists nodes of the merged graph, which has so many
-pub record Ready (b : List ℕ) (z : Sizes) (nodes : ℕ) (room : List ℕ) : Type 0 where
-  pub mapped : Mapped b z room
+pub record Ready (d : Drawing) (nodes : ℕ) (room : List ℕ) : Type 0 where
+  pub mapped : Mapped d room
   pub roomy : room_spiderize ≤ length room
-  pub proper : Proper (merged_of b)
-  pub count : nodes ≡ length (merged_of b).labels
+  pub proper : Proper (merged_of d)
+  pub count : nodes ≡ length (merged_of d).labels
   pub ids : List ℕ
   pub listed : is_listed nodes (cells (table_of room)) ≡ among ids
   pub empty : Linked nodes (cells (table_of room)) nodes (λ k x. [])

@@ -31,8 +31,9 @@ use Rattle.halves.proofs.Lists.{count_cons, pos_of}
 use Rattle.halves.proofs.Sums.{bump_plus}
 use Rattle.halves.proofs.Start.{seeding_start, seeded, seeding_done}
 use Rattle.halves.proofs.Whole.{Peeled, first_peeled, still}
-use Rattle.form.specs.Stored.{graph_of, Stored}
-use Rattle.form.specs.declared.Sizes.{Sizes}
+use Rattle.form.specs.Drawn.{graph_in}
+use Rattle.form.specs.declared.Drawing.{Drawing}
+use Rattle.form.proofs.Drawn.{stored_in}
 use Rattle.tables.specs.Tables.{most_nodes, most_vertices, most_ports, waiting_at, picked_at}
 use Rattle.removal.specs.Room.{Source, part, halves_in, list_in, Roomy, Went, Lists}
 use Rattle.removal.proofs.Tables.{part_length, list_steady}
@@ -91,11 +92,11 @@ pub record Drawn (g : Graph) (nodes n : ℕ) : Type 0 where
   pub few_ports : ports g ≤ most_ports
 
 -- a stored one
-pub drawn : {b : List ℕ} {z : Sizes} → Stored b z → Drawn (graph_of b) z.nodes (z.nodes + z.edges)
-drawn s =
-    let f = facts s in
+pub drawn : (d : Drawing) → Drawn (graph_in d) d.sizes.nodes (d.sizes.nodes + d.sizes.edges)
+drawn d =
+    let f = facts d in
     record {
-      proper = s.formed.proper;
+      proper = (stored_in d).formed.proper;
       nodes_is = f.nodes;
       n_is = λ i. f.nodes i + f.edges i;
       few_nodes = omega (arith, f.nodes, f.few_nodes);

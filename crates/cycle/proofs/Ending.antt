@@ -13,10 +13,11 @@ use lib.ListN.{length, get_or, replicate, length-replicate, get_or-replicate}
 use lib.Seq.{sets, length-sets}
 use borrow.Author.Tests.{ltb-true}
 use Rattle.le.proofs.Tables.{get_d_sets, get_d_sets_before}
-use Rattle.form.specs.Form.{numbered}
-use Rattle.form.specs.declared.Step.TheVariants as step
-use Rattle.form.specs.declared.Step.{Step}
-use Rattle.graph.specs.Answer.{Answer, refused, answered, refusal}
+use Rattle.form.specs.Form.{telling}
+use Rattle.form.specs.declared.Refusal.{Refusal}
+use Rattle.form.specs.declared.Refusal.TheVariants as why
+use Rattle.std.specs.Prelude.{Result, Ok, Err}
+use Rattle.graph.specs.Answer.{refused, answered, refusal}
 use Rattle.graph.specs.Graph.{Graph}
 use Rattle.graph.specs.Lists.{among}
 use Rattle.graph.proofs.Steps.{never, same_answer}
@@ -37,7 +38,7 @@ use Rattle.removal.specs.Room.{Source, halves_in, list_in, Roomy}
 use Rattle.removal.proofs.Tables.{list_same}
 use Rattle.removal.proofs.Peeling.{lists_same}
 use Rattle.cycle.specs.Next.{may, NoneKept, degrees_in}
-use Rattle.cycle.specs.Stage.{Standing, Underway, Flagged, free_of, Answered, AllSmall, Made}
+use Rattle.cycle.specs.Stage.{Standing, Underway, Flagged, Answered, AllSmall, Made}
 use Rattle.cycle.specs.Begin.{First, kept_marked, ChosenIn}
 use Rattle.cycle.proofs.Begin.{Drawn, bounded, waits_long, first_still, first_stable, some_left_lem}
 use Rattle.cycle.proofs.Marks.{marked_long, marked_before, marked_flag}
@@ -46,21 +47,21 @@ use Rattle.cycle.proofs.Staging.{halves_same}
 
 -- the choice is answered, and this is its free count and these are its flags
 chosen_answered : (kept : List ℕ) (g : Graph) (X : List ℕ) (nodes free : ℕ) (c : Chosen) → chosen_keeping kept g ≡ answered c → c.free ≡ free → Flagged nodes X c.ids
-    → ChosenIn kept g X nodes (step.Number free)
+    → ChosenIn kept g X nodes (Ok free)
 chosen_answered kept g X nodes free c e f flags = record {
-  is = sym (ap (λ (a : Answer Chosen). numbered (free_of a)) e ∙ ap step.Number f);
+  is = sym (ap (telling (λ (c : Chosen). c.free)) e ∙ ap answered f);
   flags = λ d q. subst (λ (k : Chosen). Flagged nodes X k.ids) (same_answer (sym e ∙ q)) flags;
 }
 
 -- it is refused
-chosen_refused : (kept : List ℕ) (g : Graph) (X : List ℕ) (nodes : ℕ) → chosen_keeping kept g ≡ refused (refusal 16) → ChosenIn kept g X nodes (step.Refused (record { no = 16; place = 0 }))
+chosen_refused : (kept : List ℕ) (g : Graph) (X : List ℕ) (nodes : ℕ) → chosen_keeping kept g ≡ refused (refusal 16) → ChosenIn kept g X nodes (Err why.NothingToChoose)
 chosen_refused kept g X nodes e = record {
-  is = sym (ap (λ (a : Answer Chosen). numbered (free_of a)) e);
+  is = sym (ap (telling (λ (c : Chosen). c.free)) e);
   flags = λ c q. absurd (never (sym e ∙ q));
 }
 
-module _ (s : Source) (g : Graph) (nodes n : ℕ) (d : Drawn g nodes n) (W : List ℕ) (end : ℕ) (long : queue_at + 2 * nodes ≤ length W) (f : First s g W nodes n end)
-    (X : List ℕ) (is : X ≡ sets W picked_at (replicate nodes 0)) (kept : List ℕ) where
+module _ {s : Source} {g : Graph} {nodes n : ℕ} (d : Drawn g nodes n) {W : List ℕ} {end : ℕ} (long : queue_at + 2 * nodes ≤ length W) (f : First s g W nodes n end)
+    {X : List ℕ} (is : X ≡ sets W picked_at (replicate nodes 0)) (kept : List ℕ) where
   few_nodes : nodes ≤ most_nodes
   few_nodes = d.few_nodes
 
@@ -87,7 +88,7 @@ module _ (s : Source) (g : Graph) (nodes n : ℕ) (d : Drawn g nodes n) (W : Lis
   chosen_is = λ i. keeping_choice (arcs g) (unkept kept g) (sym d.n_is i)
 
   -- all have gone: none is chosen
-  pub all_gone : end ≡ n → ChosenIn kept g X nodes (step.Number end)
+  pub all_gone : end ≡ n → ChosenIn kept g X nodes (Ok end)
   all_gone e =
       let w = waits_long s g nodes n d W (omega arith) end f in
       let going = subst (Going (arcs g) (unkept kept g) n f.left (halves_in W n end) []) (sym w) (first_going (arcs g) (unkept kept g) n f.left (halves_in W n end) end f.frees f.ready) in
@@ -96,7 +97,7 @@ module _ (s : Source) (g : Graph) (nodes n : ℕ) (d : Drawn g nodes n) (W : Lis
       (λ x l. (λ m. absurd (Memᴰ.not-nil ((told.3 x).0 m)), λ q. absurd (omega (arith, cleared x l))))
 
   -- the kept nodes are marked
-  module _ (M : List ℕ) (marks : M ≡ kept_marked X kept) where
+  module _ {M : List ℕ} (marks : M ≡ kept_marked X kept) where
     M_long : length M ≡ length W
     M_long = ap length marks ∙ marked_long X kept ∙ X_long
 
@@ -135,7 +136,7 @@ module _ (s : Source) (g : Graph) (nodes n : ℕ) (d : Drawn g nodes n) (W : Lis
             go false e = refl
 
     -- the queue is made
-    module _ (Y : List ℕ) (m : ℕ) (made : Made M Y nodes n m) where
+    module _ {Y : List ℕ} {m : ℕ} (made : Made M Y nodes n m) where
       Y_long : length Y ≡ length W
       Y_long = made.frame.long ∙ M_long
 
@@ -152,7 +153,7 @@ module _ (s : Source) (g : Graph) (nodes n : ℕ) (d : Drawn g nodes n) (W : Lis
       same_degrees = unfold halves_in in ap (λ (h : Halves). h.degrees) same
 
       -- nobody is queued: nothing that is left may be chosen
-      pub none_queued : end ≢ n → m ≡ 0 → ChosenIn kept g Y nodes (step.Refused (record { no = 16; place = 0 }))
+      pub none_queued : end ≢ n → m ≡ 0 → ChosenIn kept g Y nodes (Err why.NothingToChoose)
       none_queued ne z =
           let x = some_left_lem s g nodes n d W (omega arith) end f ne in
           chosen_refused kept g Y nodes
@@ -198,10 +199,10 @@ module _ (s : Source) (g : Graph) (nodes n : ℕ) (d : Drawn g nodes n) (W : Lis
           unmarked false e = omega (arith, e)
 
       -- and the stages have run
-      pub all_flagged : (Z : List ℕ) (q : Step) → Answered s Y Z nodes n end q → ChosenIn kept g Z nodes q
+      pub all_flagged : {Z : List ℕ} {q : Result ℕ Refusal} → Answered s Y Z nodes n end q → ChosenIn kept g Z nodes q
       unfolding underway
-      all_flagged Z q a = record {
-        is = a.is underway ∙ ap (λ (x : Answer Chosen). numbered (free_of x)) same_choice;
+      all_flagged a = record {
+        is = a.is underway ∙ ap (telling (λ (c : Chosen). c.free)) same_choice;
         flags = λ c e. a.flags underway c (same_choice ∙ e);
       }
         where

@@ -1,14 +1,14 @@
 -- A stage in the room: the best node is flagged and goes, and then all that may go freely, as the model does.
 -- Assumes nothing.
-use Rattle.std.specs.Prelude.{◌≡◌, List, [], true, false, ◌↔◌, ℕ, ◌+◌, ◌-◌, ◌*◌, ◌≤◌, ◌<◌, length, get_or, set}
+use Rattle.std.specs.Prelude.{◌≡◌, List, [], true, false, ◌↔◌, ℕ, ◌+◌, ◌-◌, ◌*◌, ◌≤◌, ◌<◌, Result, length, get_or, set}
 use Rattle.tables.specs.Tables.{picked_at, queue_at}
 use Rattle.choice.specs.Arcs.{Arc, In, Set}
 use Rattle.choice.specs.Choice.{Chosen}
 use Rattle.choice.specs.Keeping.{keeping_choice}
 use Rattle.choice.specs.Promises.{Bounded}
-use Rattle.form.specs.Form.{numbered}
-use Rattle.form.specs.declared.Step.{Step}
-use Rattle.graph.specs.Answer.{Answer, refused, answered}
+use Rattle.form.specs.Form.{told, telling}
+use Rattle.form.specs.declared.Refusal.{Refusal}
+use Rattle.graph.specs.Answer.{answered}
 use Rattle.halves.specs.Halves.{peel_from, pick, Listed, Going}
 use Rattle.le.specs.Le.{Outside}
 use Rattle.queue.specs.Keys.{radix, key, Queued, Filling}
@@ -48,14 +48,9 @@ pub record Underway (s : Source) (W : List ℕ) (nodes n end : ℕ) : Type 0 whe
 abbrev pub Flagged : ℕ → List ℕ → List ℕ → Type 0
 Flagged nodes X picked = (x : ℕ) → x < nodes → In x picked ↔ (get_or X (picked_at + x) 0 ≡ 1)
 
--- the free count of a choice, or its refusal
-abbrev pub free_of : Answer Chosen → Answer ℕ
-free_of (refused r) = refused r
-free_of (answered c) = answered c.free
-
 -- whatever the arcs are: q is the free count of the choice among what may be chosen, or 16; and the flags are those of what it answers
-pub record Answered (s : Source) (W X : List ℕ) (nodes n end : ℕ) (q : Step) : Type 0 where
-  pub is : (u : Underway s W nodes n end) → q ≡ numbered (free_of (keeping_choice u.arcs (may W nodes) n))
+pub record Answered (s : Source) (W X : List ℕ) (nodes n end : ℕ) (q : Result ℕ Refusal) : Type 0 where
+  pub is : (u : Underway s W nodes n end) → told q ≡ telling (λ (c : Chosen). c.free) (keeping_choice u.arcs (may W nodes) n)
   pub flags : (u : Underway s W nodes n end) (c : Chosen) → keeping_choice u.arcs (may W nodes) n ≡ answered c → Flagged nodes X c.ids
 
 -- ---- making the queue

@@ -8,17 +8,20 @@ ghost use Rattle.le.specs.Le.{words, Wide, Below};
 ghost use Rattle.le.specs.Rows.{Holds, row_at, span, puts};
 ghost use Rattle.choice.specs.Drawing.{chosen, no_loop};
 ghost use Rattle.choice.specs.Calls.{listing, no_loop_call, cycle_breaking_nodes_call, cycle_breaking_nodes_keeping_call};
-ghost use Rattle.form.specs.Form.{body_of, outcome, Gives};
+ghost use Rattle.form.specs.Form.{told, outcome, Gives};
 ghost use Rattle.graph.specs.Graph.{Format};
-ghost use Rattle.form.specs.Stored.{graph_of, format_of, Stored};
-ghost use Rattle.cycle.specs.Begin.{First, kept_marked, ChosenIn, chosen_as, keeping_listed, shown, flagged_below};
+ghost use Rattle.form.specs.Stored.{format_of};
+ghost use Rattle.form.specs.Drawn.{graph_in};
+ghost use Rattle.cycle.specs.Begin.{First, kept_marked, ChosenIn, chosen_as, keeping_listed, is_flagged};
+ghost use Rattle.choice.specs.Passing.{shown, shown_below};
+ghost use Rattle.incidence.specs.Incidence.{source_in};
 ghost use Rattle.removal.specs.Room.{source};
 ghost use Rattle.queue.specs.Keys.{radix, key, id_of, in_of, score_of, Heap, Queued};
 ghost use Rattle.queue.specs.Places.{keys_in};
 ghost use Rattle.cycle.specs.Next.{candidate_of, may, NoneKept, degrees_in, Agreed};
 ghost use Rattle.cycle.specs.Stage.{Standing, Staged, Underway, Answered, AllSmall, Entered, Made};
 
-use form::{Outcome, Reading, Refusal, Sizes, Step};
+use form::{Done, Drawing, Refusal, Sizes};
 use le::Row;
 
 // The bytes of work room that each call needs.
@@ -28,7 +31,7 @@ pub const ROOM_CYCLE_BREAKING_NODES: usize = tables::CHOICE_BYTES;
 
 pub const ROOM_CYCLE_BREAKING_NODES_KEEPING: usize = tables::CHOICE_BYTES;
 
-// The flag of a node that is chosen, and of one that is kept.
+// The flag of a node that is chosen, and of one that is kept: words and no enum, since they stand in lent memory.
 const CHOSEN: u32 = 1;
 
 const KEPT: u32 = 2;
@@ -104,18 +107,15 @@ pub fn next_candidate(room: &mut [u8], nodes: usize, n: usize, m: usize) -> usiz
     requires queued { Queued (may (words room.old) nodes) (degrees_in (words room.old) n) (keys_in (words room.old) queue_at m) }
     ensures { Agreed (words room.old) (words room.new) nodes n m result }
 {
-    let mut best: usize = 0;
     loop {
         let top = queue::key_at(room, tables::QUEUE, 0);
         let c = unpack(top);
-        best = c.id;
-        let present = key_now(room, best);
+        let present = key_now(room, c.id);
         if present == top {
-            break;
+            return c.id;
         }
         queue::sink(room, tables::QUEUE, m, present);
     }
-    best
 }
 
 // One stage: the best node is flagged and goes, and then all that may go freely. Nothing waits before or after; answered is how many went freely so far.
@@ -148,7 +148,7 @@ pub fn greedy_feedback_nodes(
     n: usize,
     m: usize,
     end: usize,
-) -> Step
+) -> Result<usize, Refusal>
     requires nodes_le_n { (nodes ≤ n) × (nodes ≤ most_nodes) × (n ≤ most_vertices) × (end ≤ n) × (0 < m) × (4 * (queue_at + 2 * m) ≤ length room.old) }
     requires standing { Standing (source s.now r) (words room.old) nodes n m end × Underway (source s.now r) (words room.old) nodes n end }
     ensures { Answered (source s.now r) (words room.old) (words room.new) nodes n end result }
@@ -158,12 +158,12 @@ pub fn greedy_feedback_nodes(
     while last + ids != n {
         let best = next_candidate(room, nodes, n, m);
         if le::word(room, 2 * best) == 0 {
-            return Step::Refused(Refusal { no: 16, place: 0 });
+            return Err(Refusal::NothingToChoose);
         }
         last = stage(room, s, r, nodes, n, m, best, last);
         ids += 1;
     }
-    Step::Number(last)
+    Ok(last)
 }
 
 // Whether a vertex may be chosen: it is a node and not kept. Nothing else says which ones may. Where no node is kept its flag is not looked at.
@@ -212,46 +212,37 @@ pub fn make_queue(room: &mut [u8], nodes: usize, n: usize, kept: usize) -> usize
 }
 
 // The incidence graph of the stored drawing, and all that may go freely at first gone; answered is how many vertices that are.
-pub fn first_removal(room: &mut [u8], src: &[u8], z: Sizes) -> usize
+pub fn first_removal(room: &mut [u8], drawing: Drawing<'_>) -> usize
     requires room_removal_in_bounds { room_removal ≤ length room.old }
-    requires stored { Stored src.now z }
-    ensures { First (source src.now (body_of z)) (graph_of src.now) (words room.new) z.nodes (z.nodes + z.edges) result }
+    ensures { First (source_in drawing.entry) (graph_in drawing.entry) (words room.new) drawing.entry.sizes.nodes (drawing.entry.sizes.nodes + drawing.entry.sizes.edges) result }
 {
-    incidence::build(room, src, z);
+    let z = drawing.sizes;
+    incidence::build(room, drawing);
     let n = z.nodes + z.edges;
     let end = removal::seed_all(room, n);
-    removal::peel(room, src, form::body_row(z), z.nodes, n, 0, end)
+    removal::peel(room, drawing.src, drawing.body(), z.nodes, n, 0, end)
 }
 
 // Whether all vertices go freely.
-fn is_acyclic(room: &mut [u8], src: &[u8], z: Sizes) -> bool
+fn is_acyclic(room: &mut [u8], drawing: Drawing<'_>) -> bool
     requires room_removal_in_bounds { room_removal ≤ length room.old }
-    requires stored { Stored src.now z }
-    ensures { result ≡ no_loop (graph_of src.now) }
+    ensures { result ≡ no_loop (graph_in drawing.entry) }
 {
-    first_removal(room, src, z) == z.nodes + z.edges
+    first_removal(room, drawing) == drawing.sizes.nodes + drawing.sizes.edges
 }
 
 // Whether the stored drawing has no directed cycle.
-pub fn no_loop(src: &[u8], room: &mut [u8]) -> Outcome
-    ensures { result ≡ outcome (no_loop_call src.now (length room.old)) }
+pub fn no_loop(src: &[u8], room: &mut [u8]) -> Result<Done, Refusal>
+    ensures { told result ≡ outcome (no_loop_call src.now (length room.old)) }
 {
-    let lent = lists::work_room(room.len(), ROOM_NO_LOOP);
-    let Step::Number(_) = lent else {
-        return Outcome::Refused(lent.refusal());
-    };
-    let graph = read::read(src);
-    let Reading::Sized(z) = graph else {
-        return Outcome::Refused(graph.refusal());
-    };
-    let pairs = lists::unpaired(z);
-    let Step::Number(_) = pairs else {
-        return Outcome::Refused(pairs.refusal());
-    };
-    if is_acyclic(room, src, z) {
-        return Outcome::Done { a: 1, b: 0 };
-    }
-    Outcome::Done { a: 0, b: 0 }
+    lists::work_room(room.len(), ROOM_NO_LOOP)?;
+    let drawing = read::read(src)?;
+    lists::unpaired(drawing.sizes)?;
+    let acyclic = is_acyclic(room, drawing);
+    Ok(Done {
+        a: usize::from(acyclic),
+        b: 0,
+    })
 }
 
 // The flag of each of these nodes says that it is kept.
@@ -266,16 +257,22 @@ fn mark_kept(room: &mut [u8], kept: &[u8], r: Row, count: usize)
 }
 
 // The choice of a stored drawing that keeps the listed nodes: its nodes flagged in the room, and how many vertices went freely; or 16.
-fn flag_nodes(room: &mut [u8], src: &[u8], z: Sizes, kept: &[u8], count: usize) -> Step
+fn flag_nodes(
+    room: &mut [u8],
+    drawing: Drawing<'_>,
+    kept: &[u8],
+    count: usize,
+) -> Result<usize, Refusal>
     requires room_choice_in_bounds { room_choice ≤ length room.old }
-    requires stored { Stored src.now z × Holds kept.now (row_at 0 z.width) count × Below z.nodes (span kept.now (row_at 0 z.width) 0 count) }
-    ensures { ChosenIn (span kept.now (row_at 0 z.width) 0 count) (graph_of src.now) (words room.new) z.nodes result }
+    requires kept_ids { Holds kept.now (row_at 0 drawing.sizes.width) count × Below drawing.sizes.nodes (span kept.now (row_at 0 drawing.sizes.width) 0 count) }
+    ensures { ChosenIn (span kept.now (row_at 0 drawing.entry.sizes.width) 0 count) (graph_in drawing.entry) (words room.new) drawing.entry.sizes.nodes result }
 {
-    let end = first_removal(room, src, z);
+    let z = drawing.sizes;
+    let end = first_removal(room, drawing);
     let n = z.nodes + z.edges;
-    incidence::clear(room, tables::PICKED, z.nodes);
+    le::clear_words(room, tables::PICKED, z.nodes);
     if end == n {
-        return Step::Number(end);
+        return Ok(end);
     }
     mark_kept(
         room,
@@ -288,15 +285,15 @@ fn flag_nodes(room: &mut [u8], src: &[u8], z: Sizes, kept: &[u8], count: usize) 
     );
     let m = make_queue(room, z.nodes, n, count);
     if m == 0 {
-        return Step::Refused(Refusal { no: 16, place: 0 });
+        return Err(Refusal::NothingToChoose);
     }
-    greedy_feedback_nodes(room, src, form::body_row(z), z.nodes, n, m, end)
+    greedy_feedback_nodes(room, drawing.src, drawing.body(), z.nodes, n, m, end)
 }
 
 // v in the list, if it is flagged; answered is where the next id goes.
 fn put_flagged(list: &mut [u8], room: &[u8], r: Row, v: usize, k: usize) -> usize
-    requires { (v < most_nodes) × (room_choice ≤ length room.now) × Holds list.old r (k + length (shown (words room.now) v)) }
-    ensures { (result ≡ k + length (shown (words room.now) v)) × (list.new ≡ puts list.old r k (shown (words room.now) v)) }
+    requires { (v < most_nodes) × (room_choice ≤ length room.now) × Holds list.old r (k + length (shown (is_flagged (words room.now)) v)) }
+    ensures { (result ≡ k + length (shown (is_flagged (words room.now)) v)) × (list.new ≡ puts list.old r k (shown (is_flagged (words room.now)) v)) }
 {
     if le::word(room, tables::PICKED + v) != CHOSEN {
         return k;
@@ -307,8 +304,8 @@ fn put_flagged(list: &mut [u8], room: &[u8], r: Row, v: usize, k: usize) -> usiz
 
 // The flagged nodes, ascending, in a row.
 fn put_chosen(list: &mut [u8], room: &[u8], r: Row, nodes: usize)
-    requires { (nodes ≤ most_nodes) × (room_choice ≤ length room.now) × Holds list.old r (length (flagged_below (words room.now) nodes)) }
-    ensures { list.new ≡ puts list.old r 0 (flagged_below (words room.now) nodes) }
+    requires { (nodes ≤ most_nodes) × (room_choice ≤ length room.now) × Holds list.old r (length (shown_below (is_flagged (words room.now)) nodes)) }
+    ensures { list.new ≡ puts list.old r 0 (shown_below (is_flagged (words room.now)) nodes) }
 {
     let mut k: usize = 0;
     for v in 0..nodes {
@@ -317,14 +314,14 @@ fn put_chosen(list: &mut [u8], room: &[u8], r: Row, nodes: usize)
 }
 
 // The flagged nodes as the answer: how many they are, and how many vertices went freely; or 10.
-fn put_answer(list: &mut [u8], room: &[u8], z: Sizes, free: usize) -> Outcome
+fn put_answer(list: &mut [u8], room: &[u8], z: Sizes, free: usize) -> Result<Done, Refusal>
     requires room_choice_in_bounds { (room_choice ≤ length room.now) × Wide z.width × (z.nodes ≤ most_nodes) × (z.nodes + z.edges ≤ most_vertices) }
-    requires free_len { length (flagged_below (words room.now) z.nodes) + free ≡ z.nodes + z.edges }
-    ensures { (f : Format) → f.width ≡ z.width → Gives (listing f (length list.old) (chosen_as (flagged_below (words room.now) z.nodes) free)) result list.old list.new }
+    requires free_len { length (shown_below (is_flagged (words room.now)) z.nodes) + free ≡ z.nodes + z.edges }
+    ensures { (f : Format) → f.width ≡ z.width → Gives (listing f (length list.old) (chosen_as (shown_below (is_flagged (words room.now)) z.nodes) free)) result list.old list.new }
 {
     let ids = z.nodes + z.edges - free;
     if list.len() < ids * z.width {
-        return Outcome::Refused(Refusal { no: 10, place: 0 });
+        return Err(Refusal::NoRoom);
     }
     put_chosen(
         list,
@@ -335,28 +332,24 @@ fn put_answer(list: &mut [u8], room: &[u8], z: Sizes, free: usize) -> Outcome
         },
         z.nodes,
     );
-    Outcome::Done { a: ids, b: free }
+    Ok(Done { a: ids, b: free })
 }
 
 // The choice of a stored drawing that keeps the listed nodes, as the answer of a call; or 16 or 10. Both calls end here, so that the one without a list does not have to read
 // an empty one.
 fn choose(
-    src: &[u8],
-    z: Sizes,
+    drawing: Drawing<'_>,
     kept: &[u8],
     count: usize,
     list: &mut [u8],
     room: &mut [u8],
-) -> Outcome
+) -> Result<Done, Refusal>
     requires room_choice_in_bounds { room_choice ≤ length room.old }
-    requires stored { Stored src.now z × Holds kept.now (row_at 0 z.width) count × Below z.nodes (span kept.now (row_at 0 z.width) 0 count) }
-    ensures { Gives (keeping_listed (span kept.now (row_at 0 z.width) 0 count) (graph_of src.now) (format_of src.now) (length list.old)) result list.old list.new }
+    requires kept_ids { Holds kept.now (row_at 0 drawing.sizes.width) count × Below drawing.sizes.nodes (span kept.now (row_at 0 drawing.sizes.width) 0 count) }
+    ensures { Gives (keeping_listed (span kept.now (row_at 0 drawing.entry.sizes.width) 0 count) (graph_in drawing.entry) (format_of drawing.entry.src.now) (length list.old)) result list.old list.new }
 {
-    let flagged = flag_nodes(room, src, z, kept, count);
-    let Step::Number(free) = flagged else {
-        return Outcome::Refused(flagged.refusal());
-    };
-    put_answer(list, room, z, free)
+    let free = flag_nodes(room, drawing, kept, count)?;
+    put_answer(list, room, drawing.sizes, free)
 }
 
 // The nodes that break every directed cycle of the stored drawing, chosen greedily among those that are not kept: how many ids stand in the list, and how many vertices
@@ -366,56 +359,33 @@ pub fn cycle_breaking_nodes_keeping(
     kept: &[u8],
     list: &mut [u8],
     room: &mut [u8],
-) -> Outcome
+) -> Result<Done, Refusal>
     ensures { Gives (cycle_breaking_nodes_keeping_call src.now kept.now (length list.old) (length room.old)) result list.old list.new }
 {
-    let lent = lists::work_room(room.len(), ROOM_CYCLE_BREAKING_NODES_KEEPING);
-    let Step::Number(_) = lent else {
-        return Outcome::Refused(lent.refusal());
-    };
-    let graph = read::read(src);
-    let Reading::Sized(z) = graph else {
-        return Outcome::Refused(graph.refusal());
-    };
-    let ids = lists::id_list(kept, z.width, z.nodes);
-    let Step::Number(count) = ids else {
-        return Outcome::Refused(ids.refusal());
-    };
-    let pairs = lists::unpaired(z);
-    let Step::Number(_) = pairs else {
-        return Outcome::Refused(pairs.refusal());
-    };
-    choose(src, z, kept, count, list, room)
+    lists::work_room(room.len(), ROOM_CYCLE_BREAKING_NODES_KEEPING)?;
+    let drawing = read::read(src)?;
+    let count = lists::id_list(kept, drawing.sizes.width, drawing.sizes.nodes)?;
+    lists::unpaired(drawing.sizes)?;
+    choose(drawing, kept, count, list, room)
 }
 
 // The same where no node is kept.
-pub fn cycle_breaking_nodes(src: &[u8], list: &mut [u8], room: &mut [u8]) -> Outcome
+pub fn cycle_breaking_nodes(src: &[u8], list: &mut [u8], room: &mut [u8]) -> Result<Done, Refusal>
     ensures { Gives (cycle_breaking_nodes_call src.now (length list.old) (length room.old)) result list.old list.new }
 {
-    let lent = lists::work_room(room.len(), ROOM_CYCLE_BREAKING_NODES);
-    let Step::Number(_) = lent else {
-        return Outcome::Refused(lent.refusal());
-    };
-    let graph = read::read(src);
-    let Reading::Sized(z) = graph else {
-        return Outcome::Refused(graph.refusal());
-    };
-    let pairs = lists::unpaired(z);
-    let Step::Number(_) = pairs else {
-        return Outcome::Refused(pairs.refusal());
-    };
-    choose(src, z, &src[0..0], 0, list, room)
+    lists::work_room(room.len(), ROOM_CYCLE_BREAKING_NODES)?;
+    let drawing = read::read(src)?;
+    lists::unpaired(drawing.sizes)?;
+    choose(drawing, &[], 0, list, room)
 }
 
 // How many nodes the choice of a stored drawing has, where no node is kept.
-pub fn count_chosen(room: &mut [u8], src: &[u8], z: Sizes) -> usize
+pub fn count_chosen(room: &mut [u8], drawing: Drawing<'_>) -> usize
     requires room_choice_in_bounds { room_choice ≤ length room.old }
-    requires stored { Stored src.now z }
-    ensures { result ≡ length (chosen (graph_of src.now)).ids }
+    ensures { result ≡ length (chosen (graph_in drawing.entry)).ids }
 {
-    let flagged = flag_nodes(room, src, z, &src[0..0], 0);
-    let Step::Number(free) = flagged else {
+    let Ok(free) = flag_nodes(room, drawing, &[], 0) else {
         return 0; // never: 16 is for kept nodes
     };
-    z.nodes + z.edges - free
+    drawing.sizes.nodes + drawing.sizes.edges - free
 }

@@ -23,12 +23,9 @@ use Rattle.graph.specs.Form.{encode}
 use Rattle.graph.proofs.Lists.{length_range}
 use Rattle.graph.proofs.Places.{sets_lay}
 use Rattle.graph.proofs.Steps.{stops, goes}
-use Rattle.form.specs.Form.{meant_by, tested}
+use Rattle.form.specs.Form.{tested}
 use Rattle.form.specs.Stored.{graph_of, format_of, Stored}
 use Rattle.form.specs.declared.Sizes.{Sizes}
-use Rattle.form.specs.declared.Refusal.{Refusal}
-use Rattle.form.specs.declared.Step.TheVariants as step
-use Rattle.form.specs.declared.Step.{Step}
 use Rattle.form.proofs.Stored.{stored_rows, nodes_are, edges_are}
 use Rattle.write.proofs.Calls.{next}
 use Rattle.write.proofs.Maps.{with_map, map_refused, map_short, map_fits}
@@ -41,9 +38,9 @@ pub edges_roomy : {b : List ℕ} {z : Sizes} {n : ℕ} → Stored b z → room_d
 edges_roomy s l = omega (arith, edges_are (stored_rows s), s.within.counts.edges)
 
 module _ {b : List ℕ} {z : Sizes} (s : Stored b z) (ids : List ℕ) where
-  pub edges_stop : (x : Refusal) → id_list (format_of b) z.edges ids ≡ refused (meant_by x) → delete_edges_step (format_of b) ids (graph_of b) ≡ refused (meant_by x)
+  pub edges_stop : (r : answer.Refusal) → id_list (format_of b) z.edges ids ≡ refused r → delete_edges_step (format_of b) ids (graph_of b) ≡ refused r
   unfolding delete_edges_step
-  edges_stop x e = rw (edges_are (stored_rows s)) (stops _ e)
+  edges_stop r e = rw (edges_are (stored_rows s)) (stops _ e)
 
   pub edges_next : (list : List ℕ) → id_list (format_of b) z.edges ids ≡ answered list → delete_edges_step (format_of b) ids (graph_of b) ≡ answered (next (delete_edges list (graph_of b)) 0)
   unfolding delete_edges_step
@@ -101,13 +98,13 @@ module _ (b ids : List ℕ) (room map_room : ℕ) where
       abbrev form : List ℕ
       form = encode (fitting graph) graph
 
-      module _ (makes : made room (record { graph = graph; id = 0 }) ≡ answered (writing form 0)) (r : Step) (fits : r ≡ tested (leb (z.nodes * z.width) map_room else refusal 10)) where
-        pub nodes_no_map : (q : Refusal) → r ≡ step.Refused q → nodes_deleted b ids room map_room ≡ refused (meant_by q)
-        nodes_no_map q e = reached ∙ map_short room map_room graph mapped (length (graph_of b).labels) makes map_long r fits q e
+      module _ (makes : made room (record { graph = graph; id = 0 }) ≡ answered (writing form 0)) where
+        pub nodes_no_map : (r : answer.Refusal) → refused r ≡ tested (leb (z.nodes * z.width) map_room else refusal 10) → nodes_deleted b ids room map_room ≡ refused r
+        nodes_no_map r e = reached ∙ map_short room map_room graph mapped (length (graph_of b).labels) makes map_long r e
 
-        pub nodes_done : (n : ℕ) → r ≡ step.Number n → nodes_deleted b ids room map_room
+        pub nodes_done : answered tt ≡ tested (leb (z.nodes * z.width) map_room else refusal 10) → nodes_deleted b ids room map_room
             ≡ answered (record { a = length form; b = length (graph_of b).labels; bytes = form; map = mapped })
-        nodes_done n e = reached ∙ map_fits room map_room graph mapped (length (graph_of b).labels) makes map_long r fits n e
+        nodes_done e = reached ∙ map_fits room map_room graph mapped (length (graph_of b).labels) makes map_long e
 
       -- the map that was put is the answered one
       pub map_put : (room old : List ℕ) → marked room z.nodes ≡ among list → z.nodes * z.width ≤ length old

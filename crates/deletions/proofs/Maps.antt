@@ -11,7 +11,7 @@ use lib.ListN.{length, get_or, set, replicate, length-replicate, get_or-replicat
 use lib.Seq.{sets, get_or-set_same, get_or-set_other}
 use borrow.Author.Tests.{eqb-true, eqb-false}
 use Rattle.le.specs.Le.{Outside}
-use Rattle.le.proofs.Frames.{outside_none, outside_set, outside_trans, outside_wider}
+use Rattle.le.proofs.Frames.{outside_set, outside_trans, outside_wider}
 use Rattle.le.proofs.Tables.{get_d_sets}
 use Rattle.graph.specs.Delete.{new_id}
 use Rattle.graph.specs.Lists.{among, member}
@@ -56,9 +56,6 @@ pub record Numbering (W X : List ℕ) (n k to : ℕ) : Type 0 where
   pub done : (i : ℕ) → i < k → mapped X i ≡ cond (is_marked W i) gone (new_id (is_marked W) i)
   pub count : to ≡ new_id (is_marked W) k
   pub frame : Outside map_at (map_at + k) W X
-
-pub numbering_start : (W : List ℕ) (n : ℕ) → Numbering W W n 0 0
-numbering_start W n = record { done = λ i l. absurd (omega arith); count = refl; frame = outside_none map_at (map_at + 0) W }
 
 pub numbering_turn : (W X Y : List ℕ) (n k to r : ℕ) → map_at + n ≤ length W → k < n → Numbering W X n k to → Numbered X Y k to r → Numbering W Y n (k + 1) r
 numbering_turn W X Y n k to r h l N T =

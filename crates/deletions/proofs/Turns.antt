@@ -1,6 +1,6 @@
 -- One turn of sifting, from what was met in code: an entry goes, or stays with its new id.
 -- Assumes nothing.
-use mathlib.Core.Bool.{Bool, true, false, not, cond, ◌||◌}
+use mathlib.Core.Bool.{Bool, true, false, cond, ◌||◌}
 use mathlib.Core.List.{List, [], ◌∷◌}
 use mathlib.Core.Path.{◌≡◌, refl, sym, ap, ◌∙◌, subst}
 use Prim.Native.Nat.{ℕ, ◌+◌, ◌*◌, ◌/◌, ◌%◌, ◌≤◌, ◌<◌}
@@ -13,25 +13,12 @@ use Rattle.le.specs.Le.{Below}
 use Rattle.le.proofs.Numbers.{below_widen}
 use Rattle.graph.specs.Lists.{flat}
 use Rattle.form.specs.declared.Sizes.{Sizes}
-use Rattle.ledger.specs.Tables.{log_at, map_at, map_size, gone}
+use Rattle.ledger.specs.declared.Renaming.TheVariants.{EdgeOfPort}
+use Rattle.ledger.specs.Tables.{log_at, map_size, gone}
 use Rattle.ledger.specs.Ledger.{words_in, pairs_in, log_in, Logged, Sound}
-use Rattle.ledger.specs.Left.{mapped, kept_word, first_left, second_left}
+use Rattle.ledger.specs.Left.{mapped, kept_word, first_left}
 use Rattle.ledger.proofs.Words.{flat_pairs}
-use Rattle.deletions.specs.Sifts.{is_marked, Numbered, WordTurn, both_stay}
-
--- ---- the map
-
-pub number_stays : (W X : List ℕ) (i to v : ℕ) → v ≡ mapped W i → v ≡ 0 → X ≡ set W (map_at + i) to → Numbered W X i to (to + 1)
-number_stays W X i to v e z x =
-    let m : is_marked W i ≡ false = ap (λ (k : ℕ). not (eqb k 0)) (sym e ∙ z) in
-    record { words = x ∙ ap (λ (c : Bool). set W (map_at + i) (cond c gone to)) (sym m); next = ap (λ (c : Bool). to + cond c 0 1) (sym m) }
-
-pub number_goes : (W X : List ℕ) (i to v : ℕ) → v ≡ mapped W i → (v ≡ 0 → ⊥) → X ≡ set W (map_at + i) gone → Numbered W X i to to
-number_goes W X i to v e z x =
-    let q : eqb (mapped W i) 0 ≡ false = ne_eqb (mapped W i) 0 (λ p. z (e ∙ p)) in
-    let m : is_marked W i ≡ true = ap not q in
-    let o : to ≡ to + 0 = omega arith in
-    record { words = x ∙ ap (λ (c : Bool). set W (map_at + i) (cond c gone to)) (sym m); next = o ∙ ap (λ (c : Bool). to + cond c 0 1) (sym m) }
+use Rattle.deletions.specs.Sifts.{WordTurn, both_stay}
 
 -- ---- words
 
@@ -54,33 +41,17 @@ word_stays W X ids off k to m v e g ev x =
 
 -- ---- pairs
 
-pub first_node : (W : List ℕ) (how a : ℕ) → how ≡ 0 → a ≡ first_left W how a
+pub edge_gone : (W : List ℕ) (a v : ℕ) → v ≡ mapped W (a / 2) → map_size ≤ v → gone ≡ first_left W EdgeOfPort a
 unfolding first_left
-first_node W how a e = rw e
-
-pub first_both : (W : List ℕ) (how a v : ℕ) → (how ≡ 0 → ⊥) → how ≡ 2 → v ≡ mapped W a → v ≡ first_left W how a
-unfolding first_left
-first_both W how a v n e x = x ∙ sym (rw e)
-
-pub first_gone : (W : List ℕ) (how a v : ℕ) → (how ≡ 0 → ⊥) → (how ≡ 2 → ⊥) → v ≡ mapped W (a / 2) → map_size ≤ v → gone ≡ first_left W how a
-unfolding first_left
-first_gone W how a v n m x h =
+edge_gone W a v x h =
     let l : leb map_size (mapped W (a / 2)) ≡ true = le-leb map_size (mapped W (a / 2)) (subst (λ (k : ℕ). map_size ≤ k) x h) in
-    sym (rw (ne_eqb how 0 n, ne_eqb how 2 m, l))
+    sym (rw l)
 
-pub first_edge : (W : List ℕ) (how a v : ℕ) → (how ≡ 0 → ⊥) → (how ≡ 2 → ⊥) → v ≡ mapped W (a / 2) → v < map_size → 2 * v + a % 2 ≡ first_left W how a
+pub edge_stays : (W : List ℕ) (a v : ℕ) → v ≡ mapped W (a / 2) → v < map_size → 2 * v + a % 2 ≡ first_left W EdgeOfPort a
 unfolding first_left
-first_edge W how a v n m x h =
+edge_stays W a v x h =
     let l : leb map_size (mapped W (a / 2)) ≡ false = lt-leb map_size (mapped W (a / 2)) (subst (λ (k : ℕ). k < map_size) x h) in
-    ap (λ (k : ℕ). 2 * k + a % 2) x ∙ sym (rw (ne_eqb how 0 n, ne_eqb how 2 m, l))
-
-pub second_edge : (W : List ℕ) (how b : ℕ) → how ≡ 1 → b ≡ second_left W how b
-unfolding second_left
-second_edge W how b e = rw e
-
-pub second_other : (W : List ℕ) (how b v : ℕ) → (how ≡ 1 → ⊥) → v ≡ mapped W b → v ≡ second_left W how b
-unfolding second_left
-second_other W how b v n x = x ∙ sym (rw (ne_eqb how 1 n))
+    ap (λ (k : ℕ). 2 * k + a % 2) x ∙ sym (rw l)
 
 pub first_goes : (a b : ℕ) → a ≡ gone → both_stay a b ≡ []
 unfolding both_stay

@@ -3,6 +3,7 @@
 use Rattle.std.specs.Prelude.{◌≡◌, Bool, not, cond, ◌||◌, List, [], ◌∷◌, ℕ, ◌+◌, ◌*◌, ◌<◌, eqb, length, get_or, set}
 use Rattle.std.proofs.lemmas.List.Edits.{sets}
 use Rattle.graph.specs.Lists.{among, flat}
+use Rattle.ledger.specs.declared.Renaming.{Renaming}
 use Rattle.ledger.specs.Tables.{map_at, gone}
 use Rattle.ledger.specs.Left.{mapped, kept_word, kept_pair}
 
@@ -29,6 +30,6 @@ unfoldable pub both_stay : ℕ → ℕ → List (ℕ × ℕ)
 both_stay a b = cond (eqb a gone || eqb b gone) [] ((a, b) ∷ [])
 
 -- entry k of a table of pairs
-pub record PairTurn (W X : List ℕ) (how off k to r : ℕ) : Type 0 where
+pub record PairTurn (W X : List ℕ) (how : Renaming) (off k to r : ℕ) : Type 0 where
   pub words : X ≡ sets W (off + 2 * to) (flat (kept_pair W how (get_or W (off + 2 * k) 0, get_or W (off + 2 * k + 1) 0)))
   pub next : r ≡ to + length (kept_pair W how (get_or W (off + 2 * k) 0, get_or W (off + 2 * k + 1) 0))

@@ -1,7 +1,7 @@
 // Deleting in the tables of a room: a map of the new ids is made, and each table is sifted where it stands.
 #![tactic(auto)]
 
-ghost use Rattle.std.specs.Prelude.{◌≡◌, true, false, [], ◌+◌, ◌*◌, ◌<◌, ◌≤◌, length, get_or, replicate};
+ghost use Rattle.std.specs.Prelude.{◌≡◌, true, false, [], ◌+◌, ◌*◌, ◌<◌, ◌≤◌, length, get_or};
 ghost use Rattle.std.proofs.lemmas.List.Edits.{sets};
 ghost use Rattle.le.specs.Le.{Below, Outside, words};
 ghost use Rattle.le.specs.Rows.{Holds, span};
@@ -14,18 +14,9 @@ ghost use Rattle.deletions.specs.Sifts.{Marked, is_marked, Numbered, WordTurn, b
 
 use form::Sizes;
 use le::Row;
+use ledger::Renaming;
 
 // ---- the map
-
-// n zeros in the map.
-fn clear_map(room: &mut [u8], n: usize)
-    requires { (n ≤ map_size) × (room_ledger ≤ length room.old) }
-    ensures { words room.new ≡ sets (words room.old) map_at (replicate n 0) }
-{
-    for k in 0..n {
-        le::set_word(room, ledger::MAP + k, 0);
-    }
-}
 
 // 1 in the map of n ids at each of so many numbers of a row.
 fn mark(room: &mut [u8], n: usize, s: &[u8], r: Row, listed: usize)
@@ -67,12 +58,15 @@ fn make_map(room: &mut [u8], n: usize, s: &[u8], r: Row, listed: usize)
     requires { Holds s.now r listed × Below n (span s.now r 0 listed) × (n ≤ map_size) × (room_ledger ≤ length room.old) }
     ensures { Mapped (words room.new) (among (span s.now r 0 listed)) n × Outside map_at (map_at + n) (words room.old) (words room.new) }
 {
-    clear_map(room, n);
+    le::clear_words(room, ledger::MAP, n);
     mark(room, n, s, r, listed);
     number_left(room, n);
 }
 
 // ---- tables of words
+
+// A label goes by its own number and stays as it is, an id by what it is and is given its new one: one function for both would ask which of them it is at each of
+// three places, and no plainer.
 
 // Entry k of a table of labels, to place `to` unless it goes with its own id; answered is the next place.
 fn keep_label(room: &mut [u8], off: usize, k: usize, to: usize) -> usize
@@ -127,40 +121,33 @@ fn keep_ids(room: &mut [u8], off: usize, n: usize) -> usize
 
 // ---- tables of pairs
 
-// What is given a new id in them: the node of a port, its edge, or both ends of a pair.
-const NODE: usize = 0;
-
-const EDGE: usize = 1;
-
-const BOTH: usize = 2;
-
 // The first of a pair: as it is, a half with its edge's new id, or the new id.
-fn first_left(room: &[u8], how: usize, a: u32) -> u32
+fn first_left(room: &[u8], how: Renaming, a: u32) -> u32
     requires { (a < map_size) × (room_ledger ≤ length room.now) }
     ensures { result ≡ first_left (words room.now) how a }
 {
-    if how == NODE {
-        return a;
+    match how {
+        Renaming::NodeOfPort => a,
+        Renaming::EdgeOfPort => {
+            let edge = le::word(room, ledger::MAP + (a / 2) as usize);
+            if ledger::MAP_SIZE <= edge as usize {
+                return ledger::GONE;
+            }
+            2 * edge + a % 2
+        }
+        Renaming::BothEnds => le::word(room, ledger::MAP + a as usize),
     }
-    if how == BOTH {
-        return le::word(room, ledger::MAP + a as usize);
-    }
-    let edge = le::word(room, ledger::MAP + (a / 2) as usize);
-    if ledger::MAP_SIZE <= edge as usize {
-        return ledger::GONE;
-    }
-    2 * edge + a % 2
 }
 
 // The second: as it is, or its new id.
-fn second_left(room: &[u8], how: usize, b: u32) -> u32
+fn second_left(room: &[u8], how: Renaming, b: u32) -> u32
     requires { (b < map_size) × (room_ledger ≤ length room.now) }
     ensures { result ≡ second_left (words room.now) how b }
 {
-    if how == EDGE {
-        return b;
+    match how {
+        Renaming::EdgeOfPort => b,
+        Renaming::NodeOfPort | Renaming::BothEnds => le::word(room, ledger::MAP + b as usize),
     }
-    le::word(room, ledger::MAP + b as usize)
 }
 
 // Two words, at place `to` of a table of pairs, unless one of them goes; answered is the next place.
@@ -168,10 +155,7 @@ fn put_kept(room: &mut [u8], at: usize, to: usize, a: u32, b: u32) -> usize
     requires { (4 * at + 8 ≤ length room.old) × (to < map_at) }
     ensures { (words room.new ≡ sets (words room.old) at (flat (both_stay a b))) × (result ≡ to + length (both_stay a b)) }
 {
-    if a == ledger::GONE {
-        return to;
-    }
-    if b == ledger::GONE {
+    if a == ledger::GONE || b == ledger::GONE {
         return to;
     }
     le::set_word(room, at, a);
@@ -180,7 +164,7 @@ fn put_kept(room: &mut [u8], at: usize, to: usize, a: u32, b: u32) -> usize
 }
 
 // Entry k of a table of pairs, with new ids to place `to` unless it goes; answered is the next place.
-fn keep_pair(room: &mut [u8], off: usize, k: usize, to: usize, how: usize) -> usize
+fn keep_pair(room: &mut [u8], off: usize, k: usize, to: usize, how: Renaming) -> usize
     requires { (get_or (words room.old) (off + 2 * k) 0 < map_size) × (get_or (words room.old) (off + 2 * k + 1) 0 < map_size) × (to ≤ k) × (off + 2 * k + 2 ≤ map_at) × (room_ledger ≤ length room.old) }
     ensures { PairTurn (words room.old) (words room.new) how off k to result }
 {
@@ -190,7 +174,7 @@ fn keep_pair(room: &mut [u8], off: usize, k: usize, to: usize, how: usize) -> us
 }
 
 // What stays of a table of n pairs; answered is how many.
-fn keep_pairs(room: &mut [u8], off: usize, n: usize, how: usize) -> usize
+fn keep_pairs(room: &mut [u8], off: usize, n: usize, how: Renaming) -> usize
     requires { Below map_size (words_in (words room.old) off (2 * n)) × (off + 2 * n ≤ map_at) × (room_ledger ≤ length room.old) }
     ensures { PairsLeft (words room.old) (words room.new) how off n result }
 {
@@ -210,16 +194,8 @@ pub fn delete_edges(room: &mut [u8], z: Sizes, s: &[u8], r: Row, n: usize) -> Si
 {
     make_map(room, z.edges, s, r, n);
     let edges = keep_labels(room, ledger::EDGE_LABELS, z.edges);
-    let ports = keep_pairs(room, ledger::LOG, z.ports, EDGE);
-    Sizes {
-        width: z.width,
-        nodes: z.nodes,
-        edges,
-        ports,
-        sources: z.sources,
-        targets: z.targets,
-        pairs: z.pairs,
-    }
+    let ports = keep_pairs(room, ledger::LOG, z.ports, Renaming::EdgeOfPort);
+    Sizes { edges, ports, ..z }
 }
 
 // The nodes go that are n numbers of a row.
@@ -229,17 +205,16 @@ pub fn delete_nodes(room: &mut [u8], z: Sizes, s: &[u8], r: Row, n: usize) -> Si
 {
     make_map(room, z.nodes, s, r, n);
     let nodes = keep_labels(room, ledger::LABELS, z.nodes);
-    let ports = keep_pairs(room, ledger::LOG, z.ports, NODE);
+    let ports = keep_pairs(room, ledger::LOG, z.ports, Renaming::NodeOfPort);
     let sources = keep_ids(room, ledger::SOURCES, z.sources);
     let targets = keep_ids(room, ledger::TARGETS, z.targets);
-    let pairs = keep_pairs(room, ledger::PAIRS, z.pairs, BOTH);
+    let pairs = keep_pairs(room, ledger::PAIRS, z.pairs, Renaming::BothEnds);
     Sizes {
-        width: z.width,
         nodes,
-        edges: z.edges,
         ports,
         sources,
         targets,
         pairs,
+        ..z
     }
 }

@@ -1,13 +1,13 @@
 // The edges of a stored form, one after the other, with refusals 5 and 4; and the place of the first id that is no node's.
 #![tactic(auto)]
 
-ghost use Rattle.std.specs.Prelude.{◌≡◌, ℕ, ◌+◌, ◌*◌, ◌<◌, ◌≤◌, ◌^◌, List, length, drop};
+ghost use Rattle.std.specs.Prelude.{◌≡◌, ℕ, ◌+◌, ◌*◌, ◌<◌, ◌≤◌, ◌^◌, List, Err, length, drop};
 ghost use Rattle.le.specs.Le.{number_at};
 ghost use Rattle.le.specs.Rows.{row_at, Holds};
 ghost use Rattle.graph.specs.Graph.{Usable};
 ghost use Rattle.graph.specs.Read.{read_edge, read_edges};
-ghost use Rattle.form.specs.Form.{meant};
-ghost use Rattle.edges.specs.Steps.{edge_step, edges_step, count_over, settled, CountsThere};
+ghost use Rattle.form.specs.Form.{meant, meant_by};
+ghost use Rattle.edges.specs.Steps.{edge_step, edges_step, count_over, meant_stop, settled, CountsThere};
 ghost use Rattle.edges.specs.Walk.{Spans, bad_place};
 
 use form::{Format, Refusal};
@@ -27,24 +27,24 @@ pub fn ports_at(s: &[u8], at: usize, width: usize) -> usize
     }
 }
 
-// Where reading stands after an edge or several: the port sum, the next place, and how far the ids reach. Or the edge there passes the limit of ports with this sum.
+// Where reading stands after an edge or several: the port sum, the next place, and how far the ids reach.
 #[derive(Clone, Copy)]
-pub enum Edges {
-    Next {
-        ports: usize,
-        at: usize,
-        bound: usize,
-    },
-    Over {
-        at: usize,
-        ports: usize,
-    },
+pub struct Reached {
+    pub ports: usize,
+    pub at: usize,
+    pub bound: usize,
+}
+
+// Why reading ends at an edge: with it the port sum, which is told here, passes its limit; or the refusal.
+#[derive(Clone, Copy)]
+pub enum Stop {
+    Over { at: usize, ports: usize },
     Refused(Refusal),
 }
 
 // One edge, after edges of this port sum whose ids reach so far. 5 its two counts are not wholly there, 4 the port sum passes its limit,
 // 5 its ids are not all there. Which of the two counts passes the limit is not asked here: asked in the loop over the edges it would slow down every edge.
-fn read_edge(s: &[u8], f: Format, at: usize, sum: usize, bound: usize) -> Edges
+fn read_edge(s: &[u8], f: Format, at: usize, sum: usize, bound: usize) -> Result<Reached, Stop>
     requires { (at ≤ length s.now) × (sum ≤ f.ports) × Usable (meant f) }
     ensures { CountsThere f.width s.now result
         × ((label : ℕ) → settled (meant f) s.now result ≡ edge_step (length s.now) sum bound (read_edge (meant f) (length s.now) sum label (drop at s.now))) }
@@ -53,34 +53,28 @@ fn read_edge(s: &[u8], f: Format, at: usize, sum: usize, bound: usize) -> Edges
     let limit = f.ports;
     let left = s.len() - at;
     if left < 2 * width {
-        return Edges::Refused(Refusal {
-            no: 5,
-            place: s.len(),
-        });
+        return Err(Stop::Refused(Refusal::WrongLength(s.len())));
     }
     let n = ports_at(s, at, width);
     let ports = sum + n;
     let rest = left - 2 * width;
     let bytes = n * width;
     if limit < ports {
-        return Edges::Over { at, ports };
+        return Err(Stop::Over { at, ports });
     }
     if rest < bytes {
-        return Edges::Refused(Refusal {
-            no: 5,
-            place: s.len(),
-        });
+        return Err(Stop::Refused(Refusal::WrongLength(s.len())));
     }
     let ids = ids_at(s, at + 2 * width, n, width, bound);
-    Edges::Next {
+    Ok(Reached {
         ports,
         at: ids.end,
         bound: ids.bound,
-    }
+    })
 }
 
 // The place of the count with which the edge at a place passes the limit of ports: this is the sum with both of its counts.
-pub fn count_over(s: &[u8], at: usize, ports: usize, width: usize, limit: usize) -> usize
+fn count_over(s: &[u8], at: usize, ports: usize, width: usize, limit: usize) -> usize
     requires { Holds s.now (row_at at width) 2 × (limit < 2 ^ 32) }
     ensures { result ≡ count_over width limit s.now at ports }
 {
@@ -90,30 +84,34 @@ pub fn count_over(s: &[u8], at: usize, ports: usize, width: usize, limit: usize)
     at + width
 }
 
+// The refusal that is meant where reading ends at an edge.
+pub fn refusal_at(s: &[u8], f: Format, stop: Stop) -> Refusal
+    requires { CountsThere f.width s.now (Err stop) × Usable (meant f) }
+    ensures { meant_by result ≡ meant_stop (meant f) s.now stop }
+{
+    match stop {
+        Stop::Over { at, ports } => {
+            Refusal::AboveLimit(count_over(s, at, ports, f.width, f.ports))
+        }
+        Stop::Refused(refusal) => refusal,
+    }
+}
+
 // As many edges as the header says, one after the other.
-pub fn read_edges(s: &[u8], f: Format, start: usize, edges: usize) -> Edges
+pub fn read_edges(s: &[u8], f: Format, start: usize, edges: usize) -> Result<Reached, Stop>
     requires { (start ≤ length s.now) × Usable (meant f) }
     ensures { CountsThere f.width s.now result
         × ((labels : List ℕ) → length labels ≡ edges → settled (meant f) s.now result ≡ edges_step (length s.now) (read_edges (meant f) (length s.now) 0 labels (drop start s.now))) }
 {
-    let mut at = start;
-    let mut ports: usize = 0;
-    let mut bound: usize = 0;
+    let mut reached = Reached {
+        ports: 0,
+        at: start,
+        bound: 0,
+    };
     for i in 0..edges {
-        let step = read_edge(s, f, at, ports, bound);
-        let Edges::Next {
-            ports: p,
-            at: a,
-            bound: b,
-        } = step
-        else {
-            return step;
-        };
-        ports = p;
-        at = a;
-        bound = b;
+        reached = read_edge(s, f, reached.at, reached.ports, reached.bound)?;
     }
-    Edges::Next { ports, at, bound }
+    Ok(reached)
 }
 
 // The place of the first id not below the bound, where there is one: among those of so many edges from `start` on, else among so many ids from `lists` on.

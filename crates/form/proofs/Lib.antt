@@ -4,3 +4,4 @@ pub mod Stored
 pub mod Listed
 pub mod Pairless
 pub mod Spared
+pub mod Drawn

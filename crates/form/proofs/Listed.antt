@@ -10,18 +10,16 @@ use Rattle.le.specs.Le.{Below, Wide, numbers}
 use Rattle.le.specs.Rows.{Holds, place_in, row_at, span}
 use Rattle.le.proofs.Numbers.{length_numbers}
 use Rattle.le.proofs.Rows.{length_span}
+use Rattle.graph.specs.Answer as answer
 use Rattle.graph.specs.Answer.{Answer, refused, answered}
 use Rattle.graph.specs.Calls.{label_list, id_list}
 use Rattle.graph.specs.Graph.{Format}
 use Rattle.graph.proofs.Lists.{below_true}
 use Rattle.graph.proofs.Steps.{same_answer, passed}
-use Rattle.form.specs.Form.{meant_by, counted}
+use Rattle.form.specs.Form.{counted}
 use Rattle.form.specs.Stored.{format_of, Stored}
-use Rattle.form.specs.declared.Refusal.{Refusal}
 use Rattle.form.specs.declared.Sizes.{Sizes}
-use Rattle.form.specs.declared.Step.TheVariants as step
-use Rattle.form.specs.declared.Step.{Step}
-use Rattle.form.proofs.Answers.{list_refused, list_answered}
+use Rattle.form.proofs.Answers.{refused_so, answered_so}
 use Rattle.form.proofs.Stored.{stored_rows}
 
 pub record Given (a : Answer (List ℕ)) (b : List ℕ) (w n : ℕ) : Type 0 where
@@ -41,25 +39,25 @@ given {w} wide a b l n e many is =
     }
 
 -- labels
-pub labels_given : (b : List ℕ) (r : Step) (n : ℕ) → r ≡ step.Number n → Wide 4 → r ≡ counted (label_list b) → Given (label_list b) b 4 n
+pub labels_given : (b : List ℕ) (n : ℕ) → Wide 4 → answered n ≡ counted (label_list b) → Given (label_list b) b 4 n
 unfolding label_list
-labels_given b r n is wide e =
-    let t = list_answered (label_list b) r e n is in
+labels_given b n wide e =
+    let t = answered_so length (label_list b) n e in
     given wide (label_list b) b t.0 n t.1 t.2 (same_answer (passed _ _ _ t.1).1)
 
 -- ids below a count, in the width of the form that was read
-module _ {b : List ℕ} {z : Sizes} (s : Stored b z) (ids : List ℕ) (count : ℕ) (r : Step) (is : (f : Format) → f.width ≡ z.width → r ≡ counted (id_list f count ids)) where
+module _ {b : List ℕ} {z : Sizes} (s : Stored b z) (ids : List ℕ) (count : ℕ) where
   width : (format_of b).width ≡ z.width
   width = ap (λ (y : Sizes). y.width) (sym s.sizes)
 
-  pub ids_refused : (x : Refusal) → r ≡ step.Refused x → id_list (format_of b) count ids ≡ refused (meant_by x)
-  ids_refused = list_refused (id_list (format_of b) count ids) r (is (format_of b) width)
+  pub ids_refused : (r : answer.Refusal) → ((f : Format) → f.width ≡ z.width → refused r ≡ counted (id_list f count ids)) → id_list (format_of b) count ids ≡ refused r
+  ids_refused r is = refused_so length (id_list (format_of b) count ids) r (is (format_of b) width)
 
-  module _ (n : ℕ) (e : r ≡ step.Number n) where
+  module _ (n : ℕ) (is : (f : Format) → f.width ≡ z.width → answered n ≡ counted (id_list f count ids)) where
     pub ids_given_lem : Given (id_list (format_of b) count ids) ids z.width n
     unfolding id_list
     ids_given_lem =
-        let t = list_answered (id_list (format_of b) count ids) r (is (format_of b) width) n e in
+        let t = answered_so length (id_list (format_of b) count ids) n (is (format_of b) width) in
         let p = passed _ _ _ (passed _ _ _ t.1).1 in
         given (stored_rows s).low.width (id_list (format_of b) count ids) ids t.0 n t.1 t.2 (subst (λ (k : ℕ). numbers k (length ids / k) ids ≡ t.0) width (same_answer p.1))
 

@@ -5,20 +5,16 @@ use mathlib.Core.Path.{◌≡◌, sym, ap, ◌∙◌}
 use Prim.Native.Nat.{ℕ}
 use lib.Dec.{leb}
 use lib.ListN.{length}
-use Rattle.form.specs.Form.{meant_by, tested, reading, refusal_in, refusal_read}
+use Rattle.form.specs.Form.{tested, reading}
 use Rattle.form.specs.Stored.{stored_of, graph_of, Stored}
-use Rattle.form.specs.declared.Reading.TheVariants as form
-use Rattle.form.specs.declared.Reading.{Reading}
-use Rattle.form.specs.declared.Refusal.{Refusal}
 use Rattle.form.specs.declared.Sizes.{Sizes}
-use Rattle.form.specs.declared.Step.TheVariants as step
-use Rattle.form.specs.declared.Step.{Step}
-use Rattle.graph.specs.Answer.{Answer, refused, Result, ◌else◌, ◌>>=◌, refusal}
+use Rattle.graph.specs.Answer as answer
+use Rattle.graph.specs.Answer.{Answer, refused, answered, Result, ◌else◌, ◌>>=◌, refusal}
 use Rattle.graph.specs.Calls.{unpaired, in_work_room}
 use Rattle.graph.specs.Graph.{Graph}
 use Rattle.graph.specs.Versions as versions
 use Rattle.graph.specs.Versions.{read}
-use Rattle.form.proofs.Answers.{test_refused, test_answered, passed_on, passed_read, work_short, work_enough}
+use Rattle.form.proofs.Answers.{refused_so, answered_so, work_short, work_enough}
 use Rattle.form.proofs.Stored.{unread}
 use Rattle.graph.proofs.Steps.{same_answer, passed, stops, goes}
 
@@ -26,27 +22,26 @@ use Rattle.graph.proofs.Steps.{same_answer, passed, stops, goes}
 abbrev on_pairless : List ℕ → (versions.StoredGraph → Graph → Answer Result) → Answer Result
 on_pairless b next = read b >>= λ s. unpaired s.graph >>= λ g. next s g
 
-module _ (b : List ℕ) (needed lent : ℕ) (next : versions.StoredGraph → Graph → Answer Result) (room : Step) (is_room : room ≡ tested (leb needed lent else refusal 10)) where
-  pub room_short : (x : Refusal) → room ≡ step.Refused x → (q : Refusal) → q ≡ refusal_in room → in_work_room needed lent (on_pairless b next) ≡ refused (meant_by q)
-  room_short x e q is = work_short needed lent (on_pairless b next) room is_room q (passed_on e is)
+module _ (b : List ℕ) (needed lent : ℕ) (next : versions.StoredGraph → Graph → Answer Result) where
+  pub room_short : (r : answer.Refusal) → refused r ≡ tested (leb needed lent else refusal 10) → in_work_room needed lent (on_pairless b next) ≡ refused r
+  room_short = work_short needed lent (on_pairless b next)
 
-  module _ (n : ℕ) (enough : room ≡ step.Number n) where
+  module _ (enough : answered tt ≡ tested (leb needed lent else refusal 10)) where
     within : in_work_room needed lent (on_pairless b next) ≡ on_pairless b next
-    within = work_enough needed lent (on_pairless b next) room is_room n enough
+    within = work_enough needed lent (on_pairless b next) enough
 
-    pub graph_unread : (r : Reading) → r ≡ reading (read b) → (x : Refusal) → r ≡ form.Refused x → (q : Refusal) → q ≡ refusal_read r
-        → in_work_room needed lent (on_pairless b next) ≡ refused (meant_by q)
-    graph_unread r is_read x e q is = within ∙ stops _ (unread b r is_read q (passed_read e is))
+    pub graph_unread : (r : answer.Refusal) → refused r ≡ reading (read b) → in_work_room needed lent (on_pairless b next) ≡ refused r
+    graph_unread r e = within ∙ stops _ (unread b r e)
 
-    module _ {z : Sizes} (s : Stored b z) (pairs : Step) (is_pairs : (g : Graph) → length g.pairs ≡ z.pairs → pairs ≡ tested (unpaired g)) where
-      is_tested : pairs ≡ tested (unpaired (graph_of b))
-      is_tested = is_pairs (graph_of b) (ap (λ (y : Sizes). y.pairs) (sym s.sizes))
+    module _ {z : Sizes} (s : Stored b z) where
+      many : length (graph_of b).pairs ≡ z.pairs
+      many = ap (λ (y : Sizes). y.pairs) (sym s.sizes)
 
-      pub graph_paired : (x : Refusal) → pairs ≡ step.Refused x → (q : Refusal) → q ≡ refusal_in pairs → in_work_room needed lent (on_pairless b next) ≡ refused (meant_by q)
-      graph_paired x e q is = within ∙ goes _ s.read_as ∙ stops _ (test_refused (unpaired (graph_of b)) pairs is_tested q (passed_on e is))
+      pub graph_paired : (r : answer.Refusal) → ((g : Graph) → length g.pairs ≡ z.pairs → refused r ≡ tested (unpaired g)) → in_work_room needed lent (on_pairless b next) ≡ refused r
+      graph_paired r is = within ∙ goes _ s.read_as ∙ stops _ (refused_so _ (unpaired (graph_of b)) r (is (graph_of b) many))
 
-      pub graph_pairless : (m : ℕ) → pairs ≡ step.Number m → in_work_room needed lent (on_pairless b next) ≡ next (stored_of b) (graph_of b)
+      pub graph_pairless : ((g : Graph) → length g.pairs ≡ z.pairs → answered tt ≡ tested (unpaired g)) → in_work_room needed lent (on_pairless b next) ≡ next (stored_of b) (graph_of b)
       unfolding unpaired
-      graph_pairless m e =
-          let t = test_answered (unpaired (graph_of b)) pairs is_tested m e in
+      graph_pairless is =
+          let t = answered_so _ (unpaired (graph_of b)) tt (is (graph_of b) many) in
           within ∙ goes _ s.read_as ∙ goes _ t.1 ∙ ap (next (stored_of b)) (sym (same_answer (passed _ _ _ t.1).1))

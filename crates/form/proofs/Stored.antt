@@ -15,10 +15,11 @@ use Rattle.le.specs.declared.Row.{Row}
 use Rattle.le.specs.Rows.{place_in, entry, span}
 use Rattle.le.proofs.Numbers.{below_each, below_front, below_back}
 use Rattle.le.proofs.Rows.{wide_some, wide_low, holds_less, length_span, span_at, span_part}
-use Rattle.graph.specs.Answer.{Answer, refused, answered, reply}
+use Rattle.graph.specs.Answer as answer
+use Rattle.graph.specs.Answer.{refused, answered, reply}
 use Rattle.graph.specs.Build.{empty}
 use Rattle.graph.specs.Form.{encode, body, label_row, edge_row, edge_start, no_edge, header_bytes}
-use Rattle.graph.specs.Graph.{Edge, Graph, counts, ports, form1, largest, WellFormed, Usable, Format, edge_entries}
+use Rattle.graph.specs.Graph.{Edge, Graph, form1, largest, WellFormed, Usable, Format, edge_entries}
 use Rattle.graph.specs.Lists.{joined, flat}
 use Rattle.graph.specs.Versions as versions
 use Rattle.graph.specs.Versions.{read}
@@ -27,52 +28,34 @@ use Rattle.graph.proofs.Laws.{joined_at, length_encode}
 use Rattle.graph.proofs.Rows.{length_label_row, length_edge_rows, length_body, labels_stored, body_stored, at_edge}
 use Rattle.graph.proofs.Versions.{read_sound}
 use Rattle.graph.proofs.WriteRead.{length_flat}
-use Rattle.form.specs.Form.{refusal_of, meant_by, sizes_of, reading, Low, labels_of, body_of, body_size, lists_from, edge_in}
+use Rattle.form.proofs.Answers.{refused_so, answered_so}
+use Rattle.form.specs.Form.{sizes_of, reading, Low, labels_of, body_of, body_size, lists_from, edge_in}
 use Rattle.form.specs.Stored.{stored_of, graph_of, format_of, Stored, Rows, EdgeThere}
-use Rattle.form.specs.declared.Reading.TheVariants.{Sized, Refused}
-use Rattle.form.specs.declared.Reading.{Reading}
-use Rattle.form.specs.declared.Refusal.{Refusal}
 use Rattle.form.specs.declared.Sizes.{Sizes}
 
 -- ---- what reading answered
 
-module _ (b : List ℕ) (r : Reading) (is : r ≡ reading (read b)) where
-  pub unread : (x : Refusal) → r ≡ Refused x → read b ≡ refused (meant_by x)
-  unread x e = look (read b) refl
-    where
-      look : (m : Answer versions.StoredGraph) → read b ≡ m → read b ≡ refused (meant_by x)
-      look (refused n) p =
-          let q : Refused x ≡ reading (refused n) = sym e ∙ is ∙ ap reading p in
-          let same : x ≡ refusal_of n = cc in
-          p ∙ ap (λ (y : Refusal). refused (meant_by y)) (sym same)
-      look (answered s) p =
-          let q : Refused x ≡ reading (answered s) = sym e ∙ is ∙ ap reading p in
-          let o : ◌≡◌ {A = ℕ} 0 1 = cc in absurd (omega arith)
+pub unread : (b : List ℕ) (r : answer.Refusal) → refused r ≡ reading (read b) → read b ≡ refused r
+unread b r e = refused_so _ (read b) r e
 
-  pub stored : Below 256 b → (z : Sizes) → r ≡ Sized z → Stored b z
+module _ (b : List ℕ) (t : Below 256 b) where
+  pub stored : (z : Sizes) → answered z ≡ reading (read b) → Stored b z
   unfolding stored_of
-  stored t z e = look (read b) refl
-    where
-      look : (m : Answer versions.StoredGraph) → read b ≡ m → Stored b z
-      look (refused n) p =
-          let q : Sized z ≡ reading (refused n) = sym e ∙ is ∙ ap reading p in
-          let o : ◌≡◌ {A = ℕ} 0 1 = cc in absurd (omega arith)
-      look (answered s) p =
-          let q : Sized z ≡ reading (answered s) = sym e ∙ is ∙ ap reading p in
-          let h = read_sound b s t p in
-          let same : s ≡ stored_of b = sym (ap (reply (record { format = form1; graph = empty }) (λ (s : versions.StoredGraph). s)) p) in
-          let size : z ≡ sizes_of s.format s.graph = cc in
-          record {
-            read_as = p ∙ ap answered same;
-            sizes = subst (λ (s : versions.StoredGraph). z ≡ sizes_of s.format s.graph) same size;
-            usable = subst (λ (s : versions.StoredGraph). Usable s.format) same h.version.usable;
-            formed = subst (λ (s : versions.StoredGraph). WellFormed s.format s.graph) same h.formed;
-            within = subst (λ (s : versions.StoredGraph). WellFormed largest s.graph) same (h.version.grows s.graph h.formed);
-            whole = subst (λ (s : versions.StoredGraph). encode s.format s.graph ≡ b) same h.whole;
-          }
+  stored z e =
+      let s = answered_so _ (read b) z e in
+      let h = read_sound b s.0 t s.1 in
+      let same : s.0 ≡ stored_of b = sym (ap (reply (record { format = form1; graph = empty }) (λ (s : versions.StoredGraph). s)) s.1) in
+      record {
+        read_as = s.1 ∙ ap answered same;
+        sizes = subst (λ (s : versions.StoredGraph). z ≡ sizes_of s.format s.graph) same s.2;
+        usable = subst (λ (s : versions.StoredGraph). Usable s.format) same h.version.usable;
+        formed = subst (λ (s : versions.StoredGraph). WellFormed s.format s.graph) same h.formed;
+        within = subst (λ (s : versions.StoredGraph). WellFormed largest s.graph) same (h.version.grows s.0.graph h.formed);
+        whole = subst (λ (s : versions.StoredGraph). encode s.format s.graph ≡ b) same h.whole;
+      }
 
-pub stored_bytes : {b : List ℕ} {r : Reading} {z : Sizes} → r ≡ reading (read b) → ((i : ℕ) → Fits w8 (get_or b i 0)) → r ≡ Sized z → Stored b z
-stored_bytes {b} {r} {z} is known e = stored b r is (below_each 256 b (λ i l. omega (arith, known i))) z e
+pub stored_bytes : {b : List ℕ} {z : Sizes} → answered z ≡ reading (read b) → ((i : ℕ) → Fits w8 (get_or b i 0)) → Stored b z
+stored_bytes {b} {z} e known = stored b (below_each 256 b (λ i l. omega (arith, known i))) z e
 
 -- ---- the rows
 

@@ -1,72 +1,76 @@
 -- What the types of this crate stand for: for each of their values the definition's answer.
 -- Assumes nothing.
-use Rattle.std.specs.Prelude.{ℕ, ◌+◌, ◌*◌, ◌≤◌, ◌<◌, ◌^◌, List, ◌≡◌, length}
+use Rattle.std.specs.Prelude.{ℕ, ◌+◌, ◌*◌, ◌≤◌, ◌<◌, ◌^◌, List, ◌≡◌, Ok, Err, length}
+use Rattle.std.specs.Prelude.{Result as Returned}
 use Rattle.le.specs.Le.{Wide}
 use Rattle.le.specs.Rows.{row_at, entry}
 use Rattle.le.specs.declared.Row.{Row}
 use Rattle.graph.specs.Graph as graph
 use Rattle.graph.specs.Graph.{Graph, Counts, ports}
 use Rattle.graph.specs.Answer as answer
-use Rattle.graph.specs.Answer.{Answer, refused, answered, Result, laid, laid_map}
+use Rattle.graph.specs.Answer.{Answer, refused, answered, ◌carrying◌, refusal, Result, laid, laid_map}
 use Rattle.graph.specs.Versions.{StoredGraph}
 use Rattle.form.specs.declared.Refusal.{Refusal}
+use Rattle.form.specs.declared.Refusal.TheVariants as why
 use Rattle.form.specs.declared.Format.{Format}
 use Rattle.form.specs.declared.Sizes.{Sizes}
 use Rattle.form.specs.declared.EdgeAt.{EdgeAt}
-use Rattle.form.specs.declared.Reading.{Reading}
-use Rattle.form.specs.declared.Reading.TheVariants as read
-use Rattle.form.specs.declared.Step.{Step}
-use Rattle.form.specs.declared.Step.TheVariants as step
-use Rattle.form.specs.declared.Outcome.{Outcome}
-use Rattle.form.specs.declared.Outcome.TheVariants as call
+use Rattle.form.specs.declared.Done.{Done}
 
 -- ---- answers
 
-abbrev pub refusal_of : answer.Refusal → Refusal
-refusal_of r = record { no = r.no; place = r.place }
-
+-- what a refusal stands for: its number, and its place
 abbrev pub meant_by : Refusal → answer.Refusal
-meant_by x = record { no = x.no; place = x.place }
+meant_by (why.TooShort place) = 1 carrying place
+meant_by why.NoMark = refusal 2
+meant_by why.UnknownVersion = 3 carrying 3
+meant_by (why.AboveLimit place) = 4 carrying place
+meant_by (why.WrongLength place) = 5 carrying place
+meant_by (why.UnknownNode place) = 6 carrying place
+meant_by (why.BadEntry place) = 7 carrying place
+meant_by why.PairPending = refusal 8
+meant_by why.ResultAboveLimit = refusal 9
+meant_by why.NoRoom = refusal 10
+meant_by why.LabelsDiffer = refusal 11
+meant_by why.BrokenStep = refusal 12
+meant_by why.UnfitVersion = refusal 13
+meant_by why.UnknownKind = refusal 14
+meant_by why.WrongPorts = refusal 15
+meant_by why.NothingToChoose = refusal 16
+meant_by why.BrokenRange = refusal 17
 
--- a step that answers a number
-abbrev pub numbered : Answer ℕ → Step
-numbered (refused r) = step.Refused (refusal_of r)
-numbered (answered n) = step.Number n
+-- what the answer of a step or a call in code stands for
+abbrev pub told : {A : Type 0} → Returned A Refusal → Answer A
+told (Ok x) = answered x
+told (Err e) = refused (meant_by e)
+
+-- of an answer what code answers of it
+abbrev pub telling : {A B : Type 0} → (A → B) → Answer A → Answer B
+telling part (refused r) = refused r
+telling part (answered x) = answered (part x)
 
 -- a step that answers a list: how long it is
-abbrev pub counted : {A : Type 0} → Answer (List A) → Step
-counted (refused r) = step.Refused (refusal_of r)
-counted (answered xs) = step.Number (length xs)
+abbrev pub counted : {A : Type 0} → Answer (List A) → Answer ℕ
+counted = telling length
 
--- a step that only tests: 0 where it passes
-abbrev pub tested : {A : Type 0} → Answer A → Step
-tested (refused r) = step.Refused (refusal_of r)
-tested (answered a) = step.Number 0
+-- a step that only tests
+abbrev pub tested : {A : Type 0} → Answer A → Answer (Unit {0})
+tested = telling (λ x. tt)
 
 -- a call: its two numbers
-abbrev pub outcome : Answer Result → Outcome
-outcome (refused r) = call.Refused (refusal_of r)
-outcome (answered x) = call.Done x.a x.b
+abbrev pub outcome : Answer Result → Answer Done
+outcome = telling (λ x. record { a = x.a; b = x.b })
 
--- the outcome of a call with this answer, and the answer buffer before and after it
-pub record Gives (a : Answer Result) (r : Outcome) (old new : List ℕ) : Type 0 where
-  pub result : r ≡ outcome a
+-- what a call with this answer returns, and the answer buffer before and after it
+pub record Gives (a : Answer Result) (r : Returned Done Refusal) (old new : List ℕ) : Type 0 where
+  pub result : told r ≡ outcome a
   pub buffer : new ≡ laid a old
 
 -- the same of a call that answers a map as well
-pub record GivesMap (a : Answer Result) (r : Outcome) (old new old_map new_map : List ℕ) : Type 0 where
-  pub result : r ≡ outcome a
+pub record GivesMap (a : Answer Result) (r : Returned Done Refusal) (old new old_map new_map : List ℕ) : Type 0 where
+  pub result : told r ≡ outcome a
   pub buffer : new ≡ laid a old
   pub map : new_map ≡ laid_map a old_map
-
--- the refusal in an answer, of number 0 where there is none
-abbrev pub refusal_in : Step → Refusal
-refusal_in (step.Number n) = record { no = 0; place = 0 }
-refusal_in (step.Refused x) = x
-
-abbrev pub refusal_read : Reading → Refusal
-refusal_read (read.Sized z) = record { no = 0; place = 0 }
-refusal_read (read.Refused x) = x
 
 -- ---- versions and sizes
 
@@ -100,9 +104,8 @@ abbrev pub sizes_of : graph.Format → Graph → Sizes
 sizes_of f g = sized f.width (graph.counts g) (ports g)
 
 -- a graph read: its sizes
-abbrev pub reading : Answer StoredGraph → Reading
-reading (refused r) = read.Refused (refusal_of r)
-reading (answered s) = read.Sized (sizes_of s.format s.graph)
+abbrev pub reading : Answer StoredGraph → Answer Sizes
+reading = telling (λ s. sizes_of s.format s.graph)
 
 -- sizes that a form can have: 32 bits each
 pub record Low (z : Sizes) : Type 0 where

@@ -1,2 +1,3 @@
 pub mod Form
 pub mod Stored
+pub mod Drawn

@@ -1,48 +1,95 @@
-// What the stored form is in code: its versions, the sizes of a graph and the rows of numbers that follow from them, one walk over the edges, and what steps and
-// calls answer. Nothing is decoded: a graph is its bytes and its sizes.
+// What the stored form is in code: its versions, the sizes of a graph and the rows of numbers that follow from them, one walk over the edges, and why a call is
+// refused. Nothing is decoded: a graph is its bytes and its sizes.
 #![tactic(auto)]
 
-ghost use Rattle.std.specs.Prelude.{◌≡◌, ◌+◌, ◌-◌, ◌^◌};
+ghost use Rattle.std.specs.Prelude.{◌≡◌, ℕ, ◌<◌, ◌≤◌, ◌+◌, ◌-◌, ◌^◌, get_or};
 ghost use Rattle.graph.specs.Graph as graph;
 ghost use Rattle.graph.specs.Graph.{counts_fit, sizes_fit};
 ghost use Rattle.graph.specs.Versions.{fitting_sizes};
 ghost use Rattle.le.specs.Le.{Wide};
 ghost use Rattle.le.specs.Rows.{Holds};
-ghost use Rattle.form.specs.Form.{meant, counts_of, body_of, labels_of, edge_in, Low, refusal_in, refusal_read};
+ghost use Rattle.graph.specs.Answer.{answered};
+ghost use Rattle.graph.specs.Versions.{read};
+ghost use Rattle.form.specs.Form.{reading, meant, counts_of, body_of, labels_of, lists_from, edge_in, Low, meant_by};
 
 use le::Row;
 
-// Why a call was refused: the number that document 01 gives it; and where, a byte in 1 to 6 and an entry's index in 7, else 0.
-#[derive(Clone, Copy)]
-pub struct Refusal {
-    pub no: u32,
-    pub place: usize,
+// Why a call was refused. Where a place is known it stands beside: of a damaged form the byte, of a list the index of its entry.
+#[derive(Clone, Copy, Debug, PartialEq, Eq)]
+pub enum Refusal {
+    // The bytes end before a header does.
+    TooShort(usize),
+    NoMark,
+    UnknownVersion,
+    // A count, or the sum of all ports, is above its limit.
+    AboveLimit(usize),
+    // The bytes end too early or too late.
+    WrongLength(usize),
+    // An id is not below the node count.
+    UnknownNode(usize),
+    // An entry of a list is broken, or is no id of the graph.
+    BadEntry(usize),
+    PairPending,
+    ResultAboveLimit,
+    NoRoom,
+    LabelsDiffer,
+    BrokenStep,
+    // The graph is stored in another version than it fits.
+    UnfitVersion,
+    UnknownKind,
+    WrongPorts,
+    // Of what is left every node is kept.
+    NothingToChoose,
+    BrokenRange,
 }
 
-// What a step answers: a number, or the refusal to pass on.
-#[derive(Clone, Copy)]
-pub enum Step {
-    Number(usize),
-    Refused(Refusal),
-}
-
-impl Step {
-    // The refusal to pass on.
-    pub fn refusal(self) -> Refusal
-        ensures { result ≡ refusal_in self }
+impl Refusal {
+    // The number by which a caller is told.
+    pub fn number(self) -> u32
+        ensures { (result ≡ (meant_by self).no) × (1 ≤ result) × (result ≤ 17) }
     {
         match self {
-            Step::Number(_) => Refusal { no: 0, place: 0 },
-            Step::Refused(x) => x,
+            Refusal::TooShort(_) => 1,
+            Refusal::NoMark => 2,
+            Refusal::UnknownVersion => 3,
+            Refusal::AboveLimit(_) => 4,
+            Refusal::WrongLength(_) => 5,
+            Refusal::UnknownNode(_) => 6,
+            Refusal::BadEntry(_) => 7,
+            Refusal::PairPending => 8,
+            Refusal::ResultAboveLimit => 9,
+            Refusal::NoRoom => 10,
+            Refusal::LabelsDiffer => 11,
+            Refusal::BrokenStep => 12,
+            Refusal::UnfitVersion => 13,
+            Refusal::UnknownKind => 14,
+            Refusal::WrongPorts => 15,
+            Refusal::NothingToChoose => 16,
+            Refusal::BrokenRange => 17,
+        }
+    }
+
+    // The place, 0 where there is none. A version's number stands at byte 3.
+    pub fn place(self) -> usize
+        ensures { result ≡ (meant_by self).place }
+    {
+        match self {
+            Refusal::TooShort(place)
+            | Refusal::AboveLimit(place)
+            | Refusal::WrongLength(place)
+            | Refusal::UnknownNode(place)
+            | Refusal::BadEntry(place) => place,
+            Refusal::UnknownVersion => 3,
+            _ => 0,
         }
     }
 }
 
-// What a call answers: its two numbers, or the refusal.
+// What a call answers: its two numbers.
 #[derive(Clone, Copy)]
-pub enum Outcome {
-    Done { a: usize, b: usize },
-    Refused(Refusal),
+pub struct Done {
+    pub a: usize,
+    pub b: usize,
 }
 
 // A version of the stored form: its number, the bytes of a count or an id, and the most of each item.
@@ -102,6 +149,17 @@ pub struct Sizes {
     pub pairs: usize,
 }
 
+// The sizes of a graph with nothing in it.
+pub const NOTHING: Sizes = Sizes {
+    width: 0,
+    nodes: 0,
+    edges: 0,
+    ports: 0,
+    sources: 0,
+    targets: 0,
+    pairs: 0,
+};
+
 // Whether no count is above its limit in a version.
 pub fn counts_fit(f: Format, z: Sizes) -> bool
     ensures { result ≡ counts_fit (meant f) (counts_of z) }
@@ -142,25 +200,6 @@ pub fn fitting_width(z: Sizes) -> usize
     }
 }
 
-// What reading answers.
-#[derive(Clone, Copy)]
-pub enum Reading {
-    Sized(Sizes),
-    Refused(Refusal),
-}
-
-impl Reading {
-    // The refusal to pass on.
-    pub fn refusal(self) -> Refusal
-        ensures { result ≡ refusal_read self }
-    {
-        match self {
-            Reading::Sized(_) => Refusal { no: 0, place: 0 },
-            Reading::Refused(x) => x,
-        }
-    }
-}
-
 // The highest number that a width has room for.
 pub fn highest(width: usize) -> usize
     requires { Wide width }
@@ -188,6 +227,40 @@ pub fn body_row(z: Sizes) -> Row
     Row {
         at: 5 + 5 * z.width + (z.nodes + z.edges) * 4,
         width: z.width,
+    }
+}
+
+// A stored graph: bytes that were read as one, and its sizes.
+#[derive(Clone, Copy)]
+pub struct Drawing<'a> {
+    pub src: &'a [u8],
+    pub sizes: Sizes,
+    ghost is_read: { answered sizes ≡ reading (read src.now) },
+    ghost are_bytes: { (i : ℕ) → get_or src.now i 0 < 256 },
+    // so that no sum of sizes is near the end of its field
+    ghost few: { (sizes.width ≤ 4) × (sizes.nodes < 2 ^ 32) × (sizes.edges < 2 ^ 32) × (sizes.ports < 2 ^ 32) × (sizes.sources < 2 ^ 32) × (sizes.targets < 2 ^ 32) × (sizes.pairs < 2 ^ 32) },
+}
+
+impl<'a> Drawing<'a> {
+    // The row of all labels.
+    pub fn labels(self) -> Row
+        ensures { result ≡ labels_of self.entry.sizes }
+    {
+        label_row(self.sizes)
+    }
+
+    // The row of all counts and ids.
+    pub fn body(self) -> Row
+        ensures { result ≡ body_of self.entry.sizes }
+    {
+        body_row(self.sizes)
+    }
+
+    // The index in that row where the global lists begin.
+    pub fn lists(self) -> usize
+        ensures { (result ≡ lists_from self.entry.sizes) × (result < 2 ^ 34) }
+    {
+        2 * self.sizes.edges + self.sizes.ports
     }
 }
 

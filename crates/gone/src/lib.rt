@@ -9,10 +9,10 @@ ghost use Rattle.graph.specs.Graph.{edge_entries};
 ghost use Rattle.graph.specs.Versions.{fitting};
 ghost use Rattle.graph.specs.Delete.{remaining, new_id, renamed, renamed_edge, renamed_pairs, without_nodes};
 ghost use Rattle.form.specs.Form.{sizes_of};
-ghost use Rattle.form.specs.Stored.{graph_of, Stored};
+ghost use Rattle.form.specs.Drawn.{graph_in};
 ghost use Rattle.gone.specs.Marks.{marked, unmarked_edges};
 
-use form::Sizes;
+use form::{Drawing, Sizes};
 use le::Row;
 
 // Of the first `count` ids, marks those in a list of n, and no others. Repeated ids count once.
@@ -40,45 +40,40 @@ fn left(room: &[u8], n: usize) -> usize
     requires { n ≤ length room.now }
     ensures { result ≡ new_id (marked room.now n) n }
 {
-    let mut stay: usize = 0;
-    for i in 0..n {
-        stay = stay + if_stays(room, i, 1);
-    }
-    stay
+    room[..n].iter().filter(|mark| **mark == 0).count()
 }
 
 // How many ports the unmarked edges have.
-fn ports_of_left(src: &[u8], z: Sizes, room: &[u8]) -> usize
-    requires { Stored src.now z × (z.edges ≤ length room.now) }
-    ensures { result ≡ length (edge_entries (remaining (marked room.now z.edges) 0 (graph_of src.now).edges)) }
+fn ports_of_left(drawing: Drawing<'_>, room: &[u8]) -> usize
+    requires { drawing.sizes.edges ≤ length room.now }
+    ensures { result ≡ length (edge_entries (remaining (marked room.now drawing.entry.sizes.edges) 0 (graph_in drawing.entry).edges)) }
 {
-    let body = form::body_row(z);
+    let body = drawing.body();
     let mut k: usize = 0;
     let mut ports: usize = 0;
-    for i in 0..z.edges {
-        let e = form::edge_at(src, body, k);
-        ports = ports + if_stays(room, i, e.sources + e.targets);
+    for i in 0..drawing.sizes.edges {
+        let e = form::edge_at(drawing.src, body, k);
+        ports += if_stays(room, i, e.sources + e.targets);
         k = e.end;
     }
     ports
 }
 
 // The sizes of the graph without its marked edges.
-pub fn without_edges(src: &[u8], z: Sizes, room: &[u8]) -> Sizes
-    requires { Stored src.now z × (z.edges ≤ length room.now) }
-    ensures { result ≡ sizes_of (fitting (unmarked_edges room.now z.edges (graph_of src.now))) (unmarked_edges room.now z.edges (graph_of src.now)) }
+pub fn without_edges(drawing: Drawing<'_>, room: &[u8]) -> Sizes
+    requires { drawing.sizes.edges ≤ length room.now }
+    ensures { result ≡ sizes_of (fitting (unmarked_edges room.now drawing.entry.sizes.edges (graph_in drawing.entry))) (unmarked_edges room.now drawing.entry.sizes.edges (graph_in drawing.entry)) }
 {
-    write::sized(
-        z.nodes,
-        left(room, z.edges),
-        ports_of_left(src, z, room),
-        z.sources,
-        z.targets,
-        z.pairs,
-    )
+    let z = drawing.sizes;
+    write::sized(Sizes {
+        edges: left(room, z.edges),
+        ports: ports_of_left(drawing, room),
+        ..z
+    })
 }
 
 // How many of n ids from number k of a row on stay.
+// A `for`: of a chain, by `filter` and `count`, it was not proved that its closure may read each number.
 fn ids_left(src: &[u8], r: Row, k: usize, n: usize, room: &[u8]) -> usize
     requires { Holds src.now r (k + n) × Below (length room.now) (span src.now r k n) }
     ensures { (result ≤ n) × ((m : ℕ) → Below m (span src.now r k n) → result ≡ length (renamed (marked room.now m) (span src.now r k n))) }
@@ -86,22 +81,22 @@ fn ids_left(src: &[u8], r: Row, k: usize, n: usize, room: &[u8]) -> usize
     let mut stay: usize = 0;
     for i in 0..n {
         let id = le::number(src, r, k + i);
-        stay = stay + if_stays(room, id, 1);
+        stay += if_stays(room, id, 1);
     }
     stay
 }
 
 // How many ports of the edges stay.
-fn ports_left(src: &[u8], z: Sizes, room: &[u8]) -> usize
-    requires { Stored src.now z × (z.nodes ≤ length room.now) }
-    ensures { result ≡ length (edge_entries (each (renamed_edge (marked room.now z.nodes)) (graph_of src.now).edges)) }
+fn ports_left(drawing: Drawing<'_>, room: &[u8]) -> usize
+    requires { drawing.sizes.nodes ≤ length room.now }
+    ensures { result ≡ length (edge_entries (each (renamed_edge (marked room.now drawing.entry.sizes.nodes)) (graph_in drawing.entry).edges)) }
 {
-    let body = form::body_row(z);
+    let body = drawing.body();
     let mut k: usize = 0;
     let mut ports: usize = 0;
-    for i in 0..z.edges {
-        let e = form::edge_at(src, body, k);
-        ports = ports + ids_left(src, body, e.first, e.sources + e.targets, room);
+    for i in 0..drawing.sizes.edges {
+        let e = form::edge_at(drawing.src, body, k);
+        ports += ids_left(drawing.src, body, e.first, e.sources + e.targets, room);
         k = e.end;
     }
     ports
@@ -118,33 +113,36 @@ fn pair_left(src: &[u8], r: Row, k: usize, room: &[u8]) -> usize
 }
 
 // How many of the n pairs from number k of a row on stay.
+// A `for`, as in `ids_left`: a chain would read the numbers in a closure too.
 fn pairs_left(src: &[u8], r: Row, k: usize, n: usize, room: &[u8]) -> usize
     requires { Holds src.now r (k + 2 * n) × Below (length room.now) (span src.now r k (2 * n)) }
     ensures { (m : ℕ) → Below m (span src.now r k (2 * n)) → result ≡ length (renamed_pairs (marked room.now m) (paired (span src.now r k (2 * n)))) }
 {
     let mut stay: usize = 0;
     for i in 0..n {
-        stay = stay + pair_left(src, r, k + 2 * i, room);
+        stay += pair_left(src, r, k + 2 * i, room);
     }
     stay
 }
 
 // The sizes of the graph without its marked nodes.
-pub fn without_nodes(src: &[u8], z: Sizes, room: &[u8]) -> Sizes
-    requires { Stored src.now z × (z.nodes ≤ length room.now) }
-    ensures { result ≡ sizes_of (fitting (without_nodes (marked room.now z.nodes) (graph_of src.now))) (without_nodes (marked room.now z.nodes) (graph_of src.now)) }
+pub fn without_nodes(drawing: Drawing<'_>, room: &[u8]) -> Sizes
+    requires { drawing.sizes.nodes ≤ length room.now }
+    ensures { result ≡ sizes_of (fitting (without_nodes (marked room.now drawing.entry.sizes.nodes) (graph_in drawing.entry))) (without_nodes (marked room.now drawing.entry.sizes.nodes) (graph_in drawing.entry)) }
 {
-    let body = form::body_row(z);
-    let lists = 2 * z.edges + z.ports;
+    let z = drawing.sizes;
+    let src = drawing.src;
+    let body = drawing.body();
+    let lists = drawing.lists();
     let sources = ids_left(src, body, lists, z.sources, room);
     let targets = ids_left(src, body, lists + z.sources, z.targets, room);
     let pairs = pairs_left(src, body, lists + z.sources + z.targets, z.pairs, room);
-    write::sized(
-        left(room, z.nodes),
-        z.edges,
-        ports_left(src, z, room),
+    write::sized(Sizes {
+        nodes: left(room, z.nodes),
+        ports: ports_left(drawing, room),
         sources,
         targets,
         pairs,
-    )
+        ..z
+    })
 }

@@ -1,8 +1,7 @@
 // Writing the drawing in the tables of a room as a form: the ports are linked half by half once, and each edge's are then put one after the other.
 #![tactic(auto)]
 
-ghost use Rattle.std.specs.Prelude.{◌≡◌, [], ◌+◌, ◌-◌, ◌*◌, ◌<◌, ◌≤◌, ◌^◌, length, get_or, replicate};
-ghost use Rattle.std.proofs.lemmas.List.Edits.{sets};
+ghost use Rattle.std.specs.Prelude.{◌≡◌, [], ◌+◌, ◌-◌, ◌*◌, ◌<◌, ◌≤◌, ◌^◌, length, get_or};
 ghost use Rattle.le.specs.Le.{words};
 ghost use Rattle.le.specs.Rows.{Holds, row_at, puts};
 ghost use Rattle.graph.specs.Graph.{largest};
@@ -10,22 +9,12 @@ ghost use Rattle.graph.specs.Form.{edge_row, label_row, body};
 ghost use Rattle.graph.specs.Lists.{joined};
 ghost use Rattle.form.specs.Form.{body_of};
 ghost use Rattle.write.specs.Write.{drawn, Put, Room};
-ghost use Rattle.ledger.specs.Tables.{log_at, next_at, first_at, room_ledger};
+ghost use Rattle.ledger.specs.Tables.{log_at, next_at, room_ledger};
 ghost use Rattle.ledger.specs.Ledger.{drawing, log_in, nodes_at, linked_at, Sound};
 ghost use Rattle.grouping.specs.Grouped.{Linked, edge_in, lists_in};
 
 use form::Sizes;
 use le::Row;
-
-// No half has a first port.
-fn clear_first(room: &mut [u8], n: usize)
-    requires { (n ≤ 2 * largest.most.edges) × (room_ledger ≤ length room.old) }
-    ensures { words room.new ≡ sets (words room.old) first_at (replicate n 0) }
-{
-    for k in 0..n {
-        le::set_word(room, ledger::FIRST + k, 0);
-    }
-}
 
 // Port k of the log in front of the ports of its half.
 fn link_one(room: &mut [u8], z: Sizes, k: usize)
@@ -43,7 +32,8 @@ pub fn link(room: &mut [u8], z: Sizes)
     requires { Sound (words room.old) z × (room_ledger ≤ length room.old) }
     ensures { Linked (words room.new) z × (drawing (words room.new) z ≡ drawing (words room.old) z) }
 {
-    clear_first(room, 2 * z.edges);
+    // no half has a first port
+    le::clear_words(room, ledger::FIRST, 2 * z.edges);
     let mut k = z.ports;
     while 0 < k {
         k -= 1;

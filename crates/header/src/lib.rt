@@ -7,10 +7,10 @@ ghost use Rattle.graph.specs.Lists.{same};
 ghost use Rattle.graph.specs.Form.{mark};
 ghost use Rattle.graph.specs.Read.{read_version, read_counts};
 ghost use Rattle.graph.specs.Versions.{format_numbered};
-ghost use Rattle.form.specs.Form.{meant, counts_of, numbered};
+ghost use Rattle.form.specs.Form.{meant, counts_of, told};
 ghost use Rattle.header.specs.Header.{versioned, count_above, header_read};
 
-use form::{Format, Reading, Refusal, Sizes, Step};
+use form::{Format, Refusal, Sizes};
 use reader::counts_at;
 
 // Whether the bytes begin with `OHG`.
@@ -18,49 +18,33 @@ fn marked(s: &[u8]) -> bool
     requires { 3 ≤ length s.now }
     ensures { result ≡ same (take 3 s.now) mark }
 {
-    if s[0] != 79 {
-        return false;
-    }
-    if s[1] != 72 {
-        return false;
-    }
-    s[2] == 71
+    s.starts_with(b"OHG")
 }
 
 // What every version begins with: 1 fewer than 15 bytes, 2 no mark, or the version's number.
-pub fn read_version(s: &[u8]) -> Step
-    ensures { result ≡ numbered (read_version s.now) }
+pub fn read_version(s: &[u8]) -> Result<usize, Refusal>
+    ensures { told result ≡ read_version s.now }
 {
     if s.len() < 15 {
-        return Step::Refused(Refusal {
-            no: 1,
-            place: s.len(),
-        });
+        return Err(Refusal::TooShort(s.len()));
     }
     if !marked(s) {
-        return Step::Refused(Refusal { no: 2, place: 0 });
+        return Err(Refusal::NoMark);
     }
-    Step::Number(le::get2(s, 3) as usize)
-}
-
-// What a version's number stands for.
-#[derive(Clone, Copy)]
-pub enum Versioned {
-    Is(Format),
-    Refused(Refusal),
+    Ok(le::get2(s, 3) as usize)
 }
 
 // The version of this number: 3 it is neither.
-pub fn format_numbered(version: usize) -> Versioned
-    ensures { result ≡ versioned (format_numbered version) }
+pub fn format_numbered(version: usize) -> Result<Format, Refusal>
+    ensures { told result ≡ versioned (format_numbered version) }
 {
     if version == 1 {
-        return Versioned::Is(form::form1());
+        return Ok(form::form1());
     }
     if version == 2 {
-        return Versioned::Is(form::form2());
+        return Ok(form::form2());
     }
-    Versioned::Refused(Refusal { no: 3, place: 3 })
+    Err(Refusal::UnknownVersion)
 }
 
 // Which count of a header is the first above its limit, where one is: 0 the nodes, 1 the edges, 2 the global sources, 3 the global targets, 4 the pairs.
@@ -83,24 +67,18 @@ fn count_above(f: Format, z: Sizes) -> usize
 }
 
 // The rest of a header: 5 it is cut short, 4 a count is above its limit, or its counts. Which count is above is asked only where one is.
-pub fn read_counts(s: &[u8], f: Format) -> Reading
+pub fn read_counts(s: &[u8], f: Format) -> Result<Sizes, Refusal>
     requires { Wide f.width }
-    ensures { result ≡ header_read f.width (read_counts (meant f) s.now) }
+    ensures { told result ≡ header_read f.width (read_counts (meant f) s.now) }
 {
     let width = f.width;
     if s.len() < 5 + 5 * width {
-        return Reading::Refused(Refusal {
-            no: 5,
-            place: s.len(),
-        });
+        return Err(Refusal::WrongLength(s.len()));
     }
     let z = counts_at(s, width);
     if !form::counts_fit(f, z) {
         let k = count_above(f, z);
-        return Reading::Refused(Refusal {
-            no: 4,
-            place: 5 + k * width,
-        });
+        return Err(Refusal::AboveLimit(5 + k * width));
     }
-    Reading::Sized(z)
+    Ok(z)
 }

@@ -166,12 +166,6 @@ module _ (g : Graph) (known : Known g) where
     N_long : length N ≡ length X
     N_long = noted_long M (2 * x + 1) e.targets e.first e.sources (omega arith) (omega (arith, M_long)) ∙ M_long
 
-    pub counted_long : length (edge_counted s (length g.labels + i) e X) ≡ length X
-    unfolding edge_counted
-    counted_long =
-        bump_long (form_list s (e.first + e.sources) e.targets 0) (bump_all (form_list s e.first e.sources 1) N)
-        ∙ bump_long (form_list s e.first e.sources 1) N ∙ N_long
-
     Y_at : (k : ℕ) → k < picked_at → get_or Y k 0 ≡ get_or N k 0 + times (mate k) (ports_of d)
     unfolding edge_counted
     Y_at k l =

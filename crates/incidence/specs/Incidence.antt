@@ -8,10 +8,16 @@ use Rattle.graph.specs.Form.{no_edge}
 use Rattle.choice.specs.Arcs.{Arc}
 use Rattle.choice.specs.Degrees.{outgoing, incoming}
 use Rattle.choice.specs.Drawing.{arcs_from, arcs, vertex_count}
+use Rattle.form.specs.Form.{body_of}
+use Rattle.form.specs.declared.Drawing.{Drawing}
 use Rattle.form.specs.declared.EdgeAt.{EdgeAt}
 use Rattle.halves.specs.Halves.{mate, sum_to}
 use Rattle.tables.specs.Tables.{lists_at, entries_at}
-use Rattle.removal.specs.Room.{Source, start_of, count_of, room_list, form_list, list_in, Lists}
+use Rattle.removal.specs.Room.{Source, source, start_of, count_of, room_list, form_list, list_in, Lists}
+
+-- where the lists of a drawing's edges stand
+abbrev pub source_in : Drawing → Source
+source_in d = source d.src.now (body_of d.sizes)
 
 -- the list of half y: the halves that lose an arc when its vertex goes
 unfoldable pub neighbours : List Arc → ℕ → List ℕ

@@ -2,31 +2,19 @@
 // an edge are its ids in the form; those of the nodes are counted, laid out one after the other, and filled.
 #![tactic(auto)]
 
-ghost use Rattle.std.specs.Prelude.{◌≡◌, ℕ, ◌+◌, ◌-◌, ◌*◌, ◌<◌, ◌≤◌, ◌^◌, length, get_or, take, replicate};
-ghost use Rattle.std.proofs.lemmas.List.Edits.{sets};
+ghost use Rattle.std.specs.Prelude.{◌≡◌, ℕ, ◌+◌, ◌*◌, ◌<◌, ◌≤◌, ◌^◌, length, get_or, take};
 ghost use Rattle.le.specs.Le.{words};
 ghost use Rattle.le.specs.Rows.{Holds};
 ghost use Rattle.choice.specs.Arcs.{In};
 ghost use Rattle.graph.specs.Form.{edge_start};
-ghost use Rattle.form.specs.Form.{body_of};
-ghost use Rattle.form.specs.Stored.{Stored, graph_of};
+ghost use Rattle.form.specs.Drawn.{graph_in};
 ghost use Rattle.halves.specs.Halves.{mate, sum_to};
 ghost use Rattle.tables.specs.Tables.{most_vertices, most_ports, lists_at, room_removal};
 ghost use Rattle.removal.specs.Room.{source, start_of, count_of, form_list, AllLow};
-ghost use Rattle.incidence.specs.Incidence.{neighbours, arcs_to, bump_all, noted, CountedTo, LaidOut, appended, appended_all, ListsFilled, Empty, Built};
+ghost use Rattle.incidence.specs.Incidence.{source_in, neighbours, arcs_to, bump_all, noted, CountedTo, LaidOut, appended, appended_all, ListsFilled, Empty, Built};
 
-use form::Sizes;
+use form::Drawing;
 use le::Row;
-
-// n zeros from word `off` on.
-pub fn clear(room: &mut [u8], off: usize, n: usize)
-    requires { 4 * (off + n) ≤ length room.old }
-    ensures { words room.new ≡ sets (words room.old) off (replicate n 0) }
-{
-    for k in 0..n {
-        le::set_word(room, off + k, 0);
-    }
-}
 
 // Degree of half y, and start and length of its list.
 fn note(room: &mut [u8], y: usize, degree: usize, start: usize, count: usize)
@@ -38,22 +26,15 @@ fn note(room: &mut [u8], y: usize, degree: usize, start: usize, count: usize)
     le::set_word(room, tables::LISTS + 2 * y + 1, count as u32);
 }
 
-// One arc more at one half of each of these nodes: of those that begin at `first` the ones from number `from` on and before number `to`.
-fn count_some(
-    room: &mut [u8],
-    src: &[u8],
-    r: Row,
-    first: usize,
-    from: usize,
-    to: usize,
-    side: usize,
-)
-    requires holds { Holds src.now r (first + to) × (from ≤ to) × (side < 2) × (room_removal ≤ length room.old) }
-    requires all_low { AllLow most_vertices (form_list (source src.now r) (first + from) (to - from) side) }
-    requires by_index { (y : ℕ) → In y (form_list (source src.now r) (first + from) (to - from) side) → get_or (words room.old) y 0 + (to - from) < 2 ^ 32 }
-    ensures { words room.new ≡ bump_all (form_list (source src.now r) (first + from) (to - from) side) (words room.old) }
+// One arc more at one half of each of these nodes. `append_some` has the same loop round another step; one function with a closure for the step is no
+// plainer: its contract would have to say, of the words that any number of steps leave, that the next step may follow and what it makes of them.
+fn count_some(room: &mut [u8], src: &[u8], r: Row, first: usize, count: usize, side: usize)
+    requires holds { Holds src.now r (first + count) × (side < 2) × (room_removal ≤ length room.old) }
+    requires all_low { AllLow most_vertices (form_list (source src.now r) first count side) }
+    requires by_index { (y : ℕ) → In y (form_list (source src.now r) first count side) → get_or (words room.old) y 0 + count < 2 ^ 32 }
+    ensures { words room.new ≡ bump_all (form_list (source src.now r) first count side) (words room.old) }
 {
-    for j in from..to {
+    for j in 0..count {
         let id = le::number(src, r, first + j);
         let y = 2 * id + side;
         let d = le::word(room, y);
@@ -61,7 +42,7 @@ fn count_some(
     }
 }
 
-// One arc more at one half of each of these nodes. The first is counted by itself: most lists have one id, and what a compiler makes of a loop is for longer ones.
+// The same, the first counted by itself: most lists have one id, and what a compiler makes of a loop is for longer ones.
 fn count_ids(room: &mut [u8], src: &[u8], r: Row, first: usize, count: usize, side: usize)
     requires holds { Holds src.now r (first + count) × (side < 2) × (room_removal ≤ length room.old) }
     requires all_low { AllLow most_vertices (form_list (source src.now r) first count side) }
@@ -71,36 +52,36 @@ fn count_ids(room: &mut [u8], src: &[u8], r: Row, first: usize, count: usize, si
     if count == 0 {
         return;
     }
-    count_some(room, src, r, first, 0, 1, side);
-    count_some(room, src, r, first, 1, count, side);
+    count_some(room, src, r, first, 1, side);
+    count_some(room, src, r, first + 1, count - 1, side);
 }
 
 // Edge i, which begins at index k: its halves noted, and its ports counted at its nodes; answered is where the next edge begins.
-fn count_edge(room: &mut [u8], src: &[u8], z: Sizes, i: usize, k: usize) -> usize
-    requires stored { Stored src.now z × (i < z.edges) × (k ≡ edge_start (graph_of src.now).edges i) × (room_removal ≤ length room.old) }
-    requires counted_to { CountedTo (source src.now (body_of z)) (graph_of src.now) (words room.old) i }
-    ensures { (result ≡ edge_start (graph_of src.now).edges (i + 1))
-        × CountedTo (source src.now (body_of z)) (graph_of src.now) (words room.new) (i + 1) }
+fn count_edge(room: &mut [u8], drawing: Drawing<'_>, i: usize, k: usize) -> usize
+    requires edge { (i < drawing.sizes.edges) × (k ≡ edge_start (graph_in drawing).edges i) × (room_removal ≤ length room.old) }
+    requires counted_to { CountedTo (source_in drawing) (graph_in drawing) (words room.old) i }
+    ensures { (result ≡ edge_start (graph_in drawing.entry).edges (i + 1))
+        × CountedTo (source_in drawing.entry) (graph_in drawing.entry) (words room.new) (i + 1) }
 {
-    let r = form::body_row(z);
-    let e = form::edge_at(src, r, k);
-    let y = 2 * (z.nodes + i);
+    let r = drawing.body();
+    let e = form::edge_at(drawing.src, r, k);
+    let y = 2 * (drawing.sizes.nodes + i);
     note(room, y, e.sources, e.first + e.sources, e.targets);
     note(room, y + 1, e.targets, e.first, e.sources);
-    count_ids(room, src, r, e.first, e.sources, 1);
-    count_ids(room, src, r, e.first + e.sources, e.targets, 0);
+    count_ids(room, drawing.src, r, e.first, e.sources, 1);
+    count_ids(room, drawing.src, r, e.first + e.sources, e.targets, 0);
     e.end
 }
 
 // All degrees, and the lists of the edges.
-fn count(room: &mut [u8], src: &[u8], z: Sizes)
-    requires { Stored src.now z × (room_removal ≤ length room.old) }
-    ensures { CountedTo (source src.now (body_of z)) (graph_of src.now) (words room.new) z.edges }
+fn count(room: &mut [u8], drawing: Drawing<'_>)
+    requires { room_removal ≤ length room.old }
+    ensures { CountedTo (source_in drawing.entry) (graph_in drawing.entry) (words room.new) drawing.entry.sizes.edges }
 {
-    clear(room, 0, 2 * z.nodes);
+    le::clear_words(room, 0, 2 * drawing.sizes.nodes);
     let mut k: usize = 0;
-    for i in 0..z.edges {
-        k = count_edge(room, src, z, i, k);
+    for i in 0..drawing.sizes.edges {
+        k = count_edge(room, drawing, i, k);
     }
 }
 
@@ -129,30 +110,21 @@ fn append(room: &mut [u8], y: usize, t: u32)
     le::set_word(room, tables::LISTS + 2 * y + 1, count + 1);
 }
 
-// t at the end of the list of one half of each of these nodes: of those that begin at `first` the ones from number `from` on and before number `to`.
-fn append_some(
-    room: &mut [u8],
-    src: &[u8],
-    r: Row,
-    first: usize,
-    from: usize,
-    to: usize,
-    side: usize,
-    t: u32,
-)
-    requires holds { Holds src.now r (first + to) × (from ≤ to) × (side < 2) × (room_removal ≤ length room.old) }
-    requires all_low { AllLow most_vertices (form_list (source src.now r) (first + from) (to - from) side) }
-    requires by_index { (j : ℕ) → j < to - from → let ys = form_list (source src.now r) (first + from) (to - from) side in let W = appended_all (take j ys) t (words room.old) in
+// t at the end of the list of one half of each of these nodes.
+fn append_some(room: &mut [u8], src: &[u8], r: Row, first: usize, count: usize, side: usize, t: u32)
+    requires holds { Holds src.now r (first + count) × (side < 2) × (room_removal ≤ length room.old) }
+    requires all_low { AllLow most_vertices (form_list (source src.now r) first count side) }
+    requires by_index { (j : ℕ) → j < count → let ys = form_list (source src.now r) first count side in let W = appended_all (take j ys) t (words room.old) in
         start_of W (get_or ys j 0) + count_of W (get_or ys j 0) < most_ports }
-    ensures { words room.new ≡ appended_all (form_list (source src.now r) (first + from) (to - from) side) t (words room.old) }
+    ensures { words room.new ≡ appended_all (form_list (source src.now r) first count side) t (words room.old) }
 {
-    for j in from..to {
+    for j in 0..count {
         let id = le::number(src, r, first + j);
         append(room, 2 * id + side, t);
     }
 }
 
-// t at the end of the list of one half of each of these nodes, the first by itself.
+// The same, the first by itself.
 fn append_ids(room: &mut [u8], src: &[u8], r: Row, first: usize, count: usize, side: usize, t: u32)
     requires holds { Holds src.now r (first + count) × (side < 2) × (room_removal ≤ length room.old) }
     requires all_low { AllLow most_vertices (form_list (source src.now r) first count side) }
@@ -163,33 +135,41 @@ fn append_ids(room: &mut [u8], src: &[u8], r: Row, first: usize, count: usize, s
     if count == 0 {
         return;
     }
-    append_some(room, src, r, first, 0, 1, side, t);
-    append_some(room, src, r, first, 1, count, side, t);
+    append_some(room, src, r, first, 1, side, t);
+    append_some(room, src, r, first + 1, count - 1, side, t);
 }
 
 // The nodes' lists.
-fn fill(room: &mut [u8], src: &[u8], z: Sizes)
-    requires stored { Stored src.now z × (room_removal ≤ length room.old) }
-    requires empty { Empty (graph_of src.now) (words room.old) }
-    ensures { ListsFilled (words room.old) (words room.new) (2 * z.nodes) (neighbours (arcs_to (graph_of src.now) z.edges)) }
+fn fill(room: &mut [u8], drawing: Drawing<'_>)
+    requires room_removal_in_bounds { room_removal ≤ length room.old }
+    requires empty { Empty (graph_in drawing) (words room.old) }
+    ensures { ListsFilled (words room.old) (words room.new) (2 * drawing.entry.sizes.nodes) (neighbours (arcs_to (graph_in drawing.entry) drawing.entry.sizes.edges)) }
 {
-    let r = form::body_row(z);
+    let r = drawing.body();
     let mut k: usize = 0;
-    for i in 0..z.edges {
-        let e = form::edge_at(src, r, k);
-        let y = (2 * (z.nodes + i)) as u32;
-        append_ids(room, src, r, e.first, e.sources, 0, y);
-        append_ids(room, src, r, e.first + e.sources, e.targets, 1, y + 1);
+    for i in 0..drawing.sizes.edges {
+        let e = form::edge_at(drawing.src, r, k);
+        let y = (2 * (drawing.sizes.nodes + i)) as u32;
+        append_ids(room, drawing.src, r, e.first, e.sources, 0, y);
+        append_ids(
+            room,
+            drawing.src,
+            r,
+            e.first + e.sources,
+            e.targets,
+            1,
+            y + 1,
+        );
         k = e.end;
     }
 }
 
 // The incidence graph of the stored drawing.
-pub fn build(room: &mut [u8], src: &[u8], z: Sizes)
-    requires { Stored src.now z × (room_removal ≤ length room.old) }
-    ensures { Built (source src.now (body_of z)) (graph_of src.now) (words room.new) }
+pub fn build(room: &mut [u8], drawing: Drawing<'_>)
+    requires { room_removal ≤ length room.old }
+    ensures { Built (source_in drawing.entry) (graph_in drawing.entry) (words room.new) }
 {
-    count(room, src, z);
-    lay_out(room, 2 * z.nodes);
-    fill(room, src, z);
+    count(room, drawing);
+    lay_out(room, 2 * drawing.sizes.nodes);
+    fill(room, drawing);
 }

@@ -12,6 +12,7 @@ use Rattle.graph.specs.Delete.{remaining, new_id, renamed, renamed_pairs, delete
 use Rattle.graph.specs.Lists.{flat, among, joined}
 use Rattle.graph.proofs.Kept.{length_remaining, renamed_below, renamed_pairs_lem}
 use Rattle.form.specs.declared.Sizes.{Sizes}
+use Rattle.ledger.specs.declared.Renaming.TheVariants.{NodeOfPort, EdgeOfPort, BothEnds}
 use Rattle.ledger.specs.Tables.{log_at, labels_at, edge_labels_at, sources_at, targets_at, pairs_at, map_at}
 use Rattle.ledger.specs.Ledger.{words_in, pairs_in, log_in, edges_from, drawing, Sound, Draws, Logged}
 use Rattle.ledger.specs.Left.{Mapped, kept_words, kept_pair, WordsLeft, PairsLeft}
@@ -34,7 +35,7 @@ module _ (goes : ℕ → Bool) where
 module _ (W : List ℕ) (z : Sizes) (S : Sound W z) (ids : List ℕ) where
   -- ---- edges
 
-  pub edges_deleted : (W₁ W₂ W₃ : List ℕ) (e p : ℕ) → Outside map_at (map_at + z.edges) W W₁ → Mapped W₁ (among ids) z.edges → WordsLeft W₁ W₂ false edge_labels_at z.edges e → PairsLeft W₂ W₃ 1 log_at z.ports p
+  pub edges_deleted : (W₁ W₂ W₃ : List ℕ) (e p : ℕ) → Outside map_at (map_at + z.edges) W W₁ → Mapped W₁ (among ids) z.edges → WordsLeft W₁ W₂ false edge_labels_at z.edges e → PairsLeft W₂ W₃ EdgeOfPort log_at z.ports p
       → Draws W₃ (record { width = z.width; nodes = z.nodes; edges = e; ports = p; sources = z.sources; targets = z.targets; pairs = z.pairs }) (delete_edges ids (drawing W z))
   unfolding drawing delete_edges
   edges_deleted W₁ W₂ W₃ e p o₁ m A B =
@@ -54,7 +55,7 @@ module _ (W : List ℕ) (z : Sizes) (S : Sound W z) (ids : List ℕ) where
       ∙ ap (remaining goes 0) (words_before o₁ edge_labels_at z.edges (omega arith)) in
       let log₂ : pairs_in W₂ log_at z.ports ≡ log_in W z = pairs_before o₂ log_at z.ports (omega arith) ∙ pairs_before o₁ log_at z.ports (omega arith) in
       let log : pairs_in W₃ log_at p ≡ logged_edges goes (log_in W z) =
-      B.left ∙ ap (joined (kept_pair W₂ 1)) log₂
+      B.left ∙ ap (joined (kept_pair W₂ EdgeOfPort)) log₂
       ∙ edges_logged goes W₂ z.edges (mapped_on o₂ (omega arith) m) (omega arith) z.nodes (log_in W z) (omega arith) (omega arith) S.log in
       let sources = words_behind o₃ sources_at z.sources (omega arith) ∙ words_behind o₂ sources_at z.sources (omega arith) ∙ words_before o₁ sources_at z.sources (omega arith) in
       let targets = words_behind o₃ targets_at z.targets (omega arith) ∙ words_behind o₂ targets_at z.targets (omega arith) ∙ words_before o₁ targets_at z.targets (omega arith) in
@@ -78,7 +79,7 @@ module _ (W : List ℕ) (z : Sizes) (S : Sound W z) (ids : List ℕ) where
   -- ---- nodes
 
   pub nodes_deleted_lem : (W₁ W₂ W₃ W₄ W₅ W₆ : List ℕ) (n p s t q : ℕ) → Outside map_at (map_at + z.nodes) W W₁ → Mapped W₁ (among ids) z.nodes → WordsLeft W₁ W₂ false labels_at z.nodes n
-      → PairsLeft W₂ W₃ 0 log_at z.ports p → WordsLeft W₃ W₄ true sources_at z.sources s → WordsLeft W₄ W₅ true targets_at z.targets t → PairsLeft W₅ W₆ 2 pairs_at z.pairs q
+      → PairsLeft W₂ W₃ NodeOfPort log_at z.ports p → WordsLeft W₃ W₄ true sources_at z.sources s → WordsLeft W₄ W₅ true targets_at z.targets t → PairsLeft W₅ W₆ BothEnds pairs_at z.pairs q
       → Draws W₆ (record { width = z.width; nodes = n; edges = z.edges; ports = p; sources = s; targets = t; pairs = q }) (delete_nodes ids (drawing W z))
   unfolding drawing delete_nodes
   nodes_deleted_lem W₁ W₂ W₃ W₄ W₅ W₆ n p s t q o₁ m A B C D E =
@@ -111,7 +112,7 @@ module _ (W : List ℕ) (z : Sizes) (S : Sound W z) (ids : List ℕ) where
       let log₂ : pairs_in W₂ log_at z.ports ≡ log_in W z = pairs_before o₂ log_at z.ports (omega arith) ∙ pairs_before o₁ log_at z.ports (omega arith) in
       let log : pairs_in W₆ log_at p ≡ logged_nodes goes (log_in W z) =
       pairs_before o₆ log_at p (omega arith) ∙ pairs_before o₅ log_at p (omega arith) ∙ pairs_before o₄ log_at p (omega arith)
-      ∙ B.left ∙ ap (joined (kept_pair W₂ 0)) log₂ ∙ nodes_logged goes W₂ z.nodes m₂ (omega arith) (2 * z.edges) (log_in W z) (omega arith) S.log in
+      ∙ B.left ∙ ap (joined (kept_pair W₂ NodeOfPort)) log₂ ∙ nodes_logged goes W₂ z.nodes m₂ (omega arith) (2 * z.edges) (log_in W z) (omega arith) S.log in
       let sources₃ : words_in W₃ sources_at z.sources ≡ words_in W sources_at z.sources =
       words_behind o₃ sources_at z.sources (omega arith) ∙ words_behind o₂ sources_at z.sources (omega arith) ∙ words_before o₁ sources_at z.sources (omega arith) in
       let sources : words_in W₆ sources_at s ≡ renamed goes (words_in W sources_at z.sources) =
@@ -126,7 +127,7 @@ module _ (W : List ℕ) (z : Sizes) (S : Sound W z) (ids : List ℕ) where
       pairs_behind o₅ pairs_at z.pairs (omega arith) ∙ pairs_behind o₄ pairs_at z.pairs (omega arith) ∙ pairs_behind o₃ pairs_at z.pairs (omega arith) ∙ pairs_behind o₂ pairs_at z.pairs (omega arith)
       ∙ pairs_before o₁ pairs_at z.pairs (omega arith) in
       let pairs : pairs_in W₆ pairs_at q ≡ renamed_pairs goes (pairs_in W pairs_at z.pairs) =
-      E.left ∙ ap (joined (kept_pair W₅ 2)) pairs₅ ∙ pairs_left goes W₅ z.nodes m₅ (omega arith) (pairs_in W pairs_at z.pairs) S.pairs in
+      E.left ∙ ap (joined (kept_pair W₅ BothEnds)) pairs₅ ∙ pairs_left goes W₅ z.nodes m₅ (omega arith) (pairs_in W pairs_at z.pairs) S.pairs in
       let many : n ≡ new_id goes z.nodes = how_many_lem goes W₆ labels_at n z.nodes ls (length_words_in W labels_at z.nodes) labels in
       record {
         sound = record {

@@ -10,10 +10,12 @@ use lib.Dec.{leb, eqb}
 use lib.ListN.{length, get_or}
 use lib.Seq.{sets}
 use Rattle.le.specs.Le.{Outside}
-use Rattle.le.proofs.Frames.{outside_none, outside_trans, outside_sets, outside_wider}
+use Rattle.le.proofs.Frames.{outside_trans, outside_sets, outside_wider}
 use Rattle.graph.specs.Lists.{joined, flat}
 use Rattle.graph.proofs.Laws.{joined_append}
 use Rattle.graph.proofs.WriteRead.{length_flat}
+use Rattle.ledger.specs.declared.Renaming.{Renaming}
+use Rattle.ledger.specs.declared.Renaming.TheVariants.{NodeOfPort, EdgeOfPort, BothEnds}
 use Rattle.ledger.specs.Tables.{map_at, map_size, gone}
 use Rattle.ledger.specs.Ledger.{words_in, pairs_in}
 use Rattle.ledger.specs.Left.{mapped, kept_word, kept_words, WordsLeft, first_left, second_left, kept_pair, PairsLeft}
@@ -41,9 +43,6 @@ pub kept_same : (W X : List ℕ) (ids : Bool) (i x : ℕ) → ((j : ℕ) → map
 unfolding kept_word
 kept_same W X ids i x h = λ k. cond (eqb (h (cond ids x i) k) gone) [] (cond ids (h x k) x ∷ [])
 
-pub words_begun : (W : List ℕ) (ids : Bool) (off : ℕ) → WordsLeft W W ids off 0 0
-words_begun W ids off = record { left = refl; few = omega arith; frame = outside_none off (off + 0) W }
-
 pub words_turned : (W X Y : List ℕ) (ids : Bool) (off k to r : ℕ) → WordsLeft W X ids off k to → off + k < length W → off + k < map_at
     → Y ≡ sets X (off + to) (kept_word X ids k (get_or X (off + k) 0)) → r ≡ to + length (kept_word X ids k (get_or X (off + k) 0)) → WordsLeft W Y ids off (k + 1) r
 words_turned W X Y ids off k to r L h hm e er =
@@ -69,7 +68,7 @@ words_turned W X Y ids off k to r L h hm e er =
 
 -- ---- pairs
 
-pub pair_few : (W : List ℕ) (how : ℕ) (p : ℕ × ℕ) → length (kept_pair W how p) ≤ 1
+pub pair_few : (W : List ℕ) (how : Renaming) (p : ℕ × ℕ) → length (kept_pair W how p) ≤ 1
 unfolding kept_pair
 pair_few W how p = go (eqb (first_left W how p.0) gone || eqb (second_left W how p.1) gone) (first_left W how p.0, second_left W how p.1)
   where
@@ -77,20 +76,21 @@ pair_few W how p = go (eqb (first_left W how p.0) gone || eqb (second_left W how
     go true v = omega arith
     go false v = omega arith
 
-pub pair_same : (W X : List ℕ) (how : ℕ) (p : ℕ × ℕ) → ((j : ℕ) → mapped X j ≡ mapped W j) → kept_pair X how p ≡ kept_pair W how p
-unfolding kept_pair
-pair_same W X how p h = λ k. cond (eqb (first k) gone || eqb (second k) gone) [] ((first k, second k) ∷ [])
+pub pair_same : (W X : List ℕ) (how : Renaming) (p : ℕ × ℕ) → ((j : ℕ) → mapped X j ≡ mapped W j) → kept_pair X how p ≡ kept_pair W how p
+unfolding kept_pair first_left second_left
+pair_same W X how p h = λ k. cond (eqb (first how k) gone || eqb (second how k) gone) [] ((first how k, second how k) ∷ [])
   where
-    first : first_left X how p.0 ≡ first_left W how p.0
-    first = unfold first_left in λ k. cond (eqb how 0) p.0 (cond (eqb how 2) (h p.0 k) (cond (leb map_size (h (p.0 / 2) k)) gone (2 * h (p.0 / 2) k + p.0 % 2)))
+    first : (how : Renaming) → first_left X how p.0 ≡ first_left W how p.0
+    first NodeOfPort = refl
+    first EdgeOfPort = λ k. cond (leb map_size (h (p.0 / 2) k)) gone (2 * h (p.0 / 2) k + p.0 % 2)
+    first BothEnds = h p.0
 
-    second : second_left X how p.1 ≡ second_left W how p.1
-    second = unfold second_left in λ k. cond (eqb how 1) p.1 (h p.1 k)
+    second : (how : Renaming) → second_left X how p.1 ≡ second_left W how p.1
+    second NodeOfPort = h p.1
+    second EdgeOfPort = refl
+    second BothEnds = h p.1
 
-pub pairs_begun : (W : List ℕ) (how off : ℕ) → PairsLeft W W how off 0 0
-pairs_begun W how off = record { left = refl; few = omega arith; frame = outside_none off (off + 2 * 0) W }
-
-pub pairs_turned : (W X Y : List ℕ) (how off k to r : ℕ) → PairsLeft W X how off k to → off + 2 * k + 2 ≤ length W → off + 2 * k + 2 ≤ map_at
+pub pairs_turned : (W X Y : List ℕ) (how : Renaming) (off k to r : ℕ) → PairsLeft W X how off k to → off + 2 * k + 2 ≤ length W → off + 2 * k + 2 ≤ map_at
     → Y ≡ sets X (off + 2 * to) (flat (kept_pair X how (get_or X (off + 2 * k) 0, get_or X (off + 2 * k + 1) 0))) → r ≡ to + length (kept_pair X how (get_or X (off + 2 * k) 0, get_or X (off + 2 * k + 1) 0))
     → PairsLeft W Y how off (k + 1) r
 pairs_turned W X Y how off k to r L h hm e er =

@@ -12,6 +12,7 @@ use Rattle.le.specs.Le.{Below}
 use Rattle.graph.specs.Delete.{remaining, new_id, renamed, renamed_edge, renamed_pairs}
 use Rattle.graph.specs.Lists.{keep, joined, flat}
 use Rattle.graph.proofs.Kept.{new_id_le, new_id_below}
+use Rattle.ledger.specs.declared.Renaming.TheVariants.{NodeOfPort, EdgeOfPort, BothEnds}
 use Rattle.ledger.specs.Tables.{map_size, gone}
 use Rattle.ledger.specs.Ledger.{nodes_at, edge_at, edges_from, Logged}
 use Rattle.ledger.specs.Left.{Mapped, mapped, kept_word, kept_words, first_left, second_left, kept_pair}
@@ -167,31 +168,31 @@ module _ (goes : ℕ → Bool) where
         go true e ih = rw (gone_goes x h.0, e) ih
         go false e ih = rw (gone_goes x h.0, e) (λ k. stays x h.0 e k ∷ ih k)
 
-    pub pairs_left : (ps : List (ℕ × ℕ)) → Below n (flat ps) → joined (kept_pair W 2) ps ≡ renamed_pairs goes ps
+    pub pairs_left : (ps : List (ℕ × ℕ)) → Below n (flat ps) → joined (kept_pair W BothEnds) ps ≡ renamed_pairs goes ps
     unfolding kept_pair first_left second_left
     pairs_left [] h = refl
     pairs_left (p ∷ ps) h = go (goes p.0) refl (goes p.1) refl (pairs_left ps h.1.1)
       where
-        go : (c : Bool) → goes p.0 ≡ c → (d : Bool) → goes p.1 ≡ d → joined (kept_pair W 2) ps ≡ renamed_pairs goes ps
-            → cond (eqb (mapped W p.0) gone || eqb (mapped W p.1) gone) [] ((mapped W p.0, mapped W p.1) ∷ []) ++ joined (kept_pair W 2) ps
+        go : (c : Bool) → goes p.0 ≡ c → (d : Bool) → goes p.1 ≡ d → joined (kept_pair W BothEnds) ps ≡ renamed_pairs goes ps
+            → cond (eqb (mapped W p.0) gone || eqb (mapped W p.1) gone) [] ((mapped W p.0, mapped W p.1) ∷ []) ++ joined (kept_pair W BothEnds) ps
             ≡ map (λ p. (new_id goes p.0, new_id goes p.1)) (cond (not c && not d) (p ∷ keep (λ p. not (goes p.0) && not (goes p.1)) ps) (keep (λ p. not (goes p.0) && not (goes p.1)) ps))
         go true e d f ih = rw (gone_goes p.0 h.0, e) ih
         go false e true f ih = rw (gone_goes p.0 h.0, e, gone_goes p.1 h.1.0, f) ih
         go false e false f ih =
             rw (gone_goes p.0 h.0, e, gone_goes p.1 h.1.0, f) (λ k. (stays p.0 h.0 e k, stays p.1 h.1.0 f k) ∷ ih k)
 
-    pub nodes_logged : (halves : ℕ) (log : List (ℕ × ℕ)) → halves ≤ gone → Logged halves n log → joined (kept_pair W 0) log ≡ logged_nodes log
+    pub nodes_logged : (halves : ℕ) (log : List (ℕ × ℕ)) → halves ≤ gone → Logged halves n log → joined (kept_pair W NodeOfPort) log ≡ logged_nodes log
     unfolding kept_pair first_left second_left
     nodes_logged halves [] l h = refl
     nodes_logged halves (p ∷ log) l h = go (goes p.1) refl (nodes_logged halves log l h.2)
       where
-        go : (c : Bool) → goes p.1 ≡ c → joined (kept_pair W 0) log ≡ logged_nodes log
-            → cond (eqb p.0 gone || eqb (mapped W p.1) gone) [] ((p.0, mapped W p.1) ∷ []) ++ joined (kept_pair W 0) log
+        go : (c : Bool) → goes p.1 ≡ c → joined (kept_pair W NodeOfPort) log ≡ logged_nodes log
+            → cond (eqb p.0 gone || eqb (mapped W p.1) gone) [] ((p.0, mapped W p.1) ∷ []) ++ joined (kept_pair W NodeOfPort) log
             ≡ cond c (logged_nodes log) ((p.0, new_id goes p.1) ∷ logged_nodes log)
         go true e ih = rw (ne_eqb p.0 gone (λ q. omega arith), gone_goes p.1 h.1, e) ih
         go false e ih = rw (ne_eqb p.0 gone (λ q. omega arith), gone_goes p.1 h.1, e) (λ k. (p.0, stays p.1 h.1 e k) ∷ ih k)
 
-    pub edges_logged : (nodes : ℕ) (log : List (ℕ × ℕ)) → nodes ≤ gone → n ≤ map_size → Logged (2 * n) nodes log → joined (kept_pair W 1) log ≡ logged_edges log
+    pub edges_logged : (nodes : ℕ) (log : List (ℕ × ℕ)) → nodes ≤ gone → n ≤ map_size → Logged (2 * n) nodes log → joined (kept_pair W EdgeOfPort) log ≡ logged_edges log
     unfolding kept_pair first_left second_left
     edges_logged nodes [] l k h = refl
     edges_logged nodes (p ∷ log) l k h = go (goes (p.0 / 2)) refl (edges_logged nodes log l k h.2)
@@ -199,9 +200,9 @@ module _ (goes : ℕ → Bool) where
         edge : p.0 / 2 < n
         edge = omega (arith, h.0)
 
-        go : (c : Bool) → goes (p.0 / 2) ≡ c → joined (kept_pair W 1) log ≡ logged_edges log
+        go : (c : Bool) → goes (p.0 / 2) ≡ c → joined (kept_pair W EdgeOfPort) log ≡ logged_edges log
             → cond (eqb (cond (leb map_size (mapped W (p.0 / 2))) gone (2 * mapped W (p.0 / 2) + p.0 % 2)) gone || eqb p.1 gone) []
-            ((cond (leb map_size (mapped W (p.0 / 2))) gone (2 * mapped W (p.0 / 2) + p.0 % 2), p.1) ∷ []) ++ joined (kept_pair W 1) log
+            ((cond (leb map_size (mapped W (p.0 / 2))) gone (2 * mapped W (p.0 / 2) + p.0 % 2), p.1) ∷ []) ++ joined (kept_pair W EdgeOfPort) log
             ≡ cond c (logged_edges log) ((new_half p.0, p.1) ∷ logged_edges log)
         go true e ih =
             let new : mapped W (p.0 / 2) ≡ gone = m.each (p.0 / 2) edge ∙ rw e in

@@ -4,6 +4,8 @@ use Rattle.std.specs.Prelude.{◌≡◌, Bool, cond, ◌||◌, List, [], ◌∷�
 use Rattle.le.specs.Le.{Outside}
 use Rattle.graph.specs.Delete.{new_id}
 use Rattle.graph.specs.Lists.{joined}
+use Rattle.ledger.specs.declared.Renaming.{Renaming}
+use Rattle.ledger.specs.declared.Renaming.TheVariants.{NodeOfPort, EdgeOfPort, BothEnds}
 use Rattle.ledger.specs.Tables.{map_at, map_size, gone}
 use Rattle.ledger.specs.Ledger.{words_in, pairs_in}
 
@@ -35,20 +37,24 @@ pub record WordsLeft (W X : List ℕ) (ids : Bool) (off n r : ℕ) : Type 0 wher
 -- ---- tables of pairs
 
 -- the first of a pair: as it is, a half with its edge's new id, or the new id
-unfoldable pub first_left : List ℕ → ℕ → ℕ → ℕ
-first_left W how a = cond (eqb how 0) a (cond (eqb how 2) (mapped W a) (cond (leb map_size (mapped W (a / 2))) gone (2 * mapped W (a / 2) + a % 2)))
+unfoldable pub first_left : List ℕ → Renaming → ℕ → ℕ
+first_left W NodeOfPort a = a
+first_left W EdgeOfPort a = cond (leb map_size (mapped W (a / 2))) gone (2 * mapped W (a / 2) + a % 2)
+first_left W BothEnds a = mapped W a
 
 -- the second: as it is, or its new id
-unfoldable pub second_left : List ℕ → ℕ → ℕ → ℕ
-second_left W how b = cond (eqb how 1) b (mapped W b)
+unfoldable pub second_left : List ℕ → Renaming → ℕ → ℕ
+second_left W NodeOfPort b = mapped W b
+second_left W EdgeOfPort b = b
+second_left W BothEnds b = mapped W b
 
 -- the pair, if both stay
-unfoldable pub kept_pair : List ℕ → ℕ → ℕ × ℕ → List (ℕ × ℕ)
+unfoldable pub kept_pair : List ℕ → Renaming → ℕ × ℕ → List (ℕ × ℕ)
 kept_pair W how p =
     cond (eqb (first_left W how p.0) gone || eqb (second_left W how p.1) gone) [] ((first_left W how p.0, second_left W how p.1) ∷ [])
 
 -- the table of n pairs from off on was W's, and r are left of it in X
-pub record PairsLeft (W X : List ℕ) (how off n r : ℕ) : Type 0 where
+pub record PairsLeft (W X : List ℕ) (how : Renaming) (off n r : ℕ) : Type 0 where
   pub left : pairs_in X off r ≡ joined (kept_pair W how) (pairs_in W off n)
   pub few : r ≤ n
   pub frame : Outside off (off + 2 * n) W X

@@ -30,3 +30,11 @@ pub const ROOM_BYTES: usize = 4 * (MAP + MAP_SIZE);
 
 // What the map has for an id that goes.
 pub const GONE: u32 = 4294967295;
+
+// What of a table of pairs is given a new id: the node of a port, its edge, or both ends of a pair.
+#[derive(Clone, Copy, Debug, PartialEq, Eq)]
+pub enum Renaming {
+    NodeOfPort,
+    EdgeOfPort,
+    BothEnds,
+}

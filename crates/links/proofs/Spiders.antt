@@ -3,11 +3,13 @@
 use mathlib.Core.Bool.{Bool, true, false, not}
 use mathlib.Core.List.{List, [], ◌∷◌, ◌++◌, append_assoc, append-nil}
 use mathlib.Core.Path.{◌≡◌, refl, ap, ◌∙◌, subst}
-use Prim.Native.Nat.{ℕ, zero, suc, ◌+◌, ◌*◌, ◌-◌, ◌≤◌, ◌<◌}
+use Prim.Native.Nat.{ℕ, zero, suc, ◌+◌, ◌*◌, ◌-◌, ◌≤◌, ◌<◌, ◌^◌}
 use native.Mathlib.Omega.{arith}
 use lib.Dec.{eqb}
 use lib.ListN.{length, length-append}
 use mir.Val.{bool_byte}
+use Rattle.std.specs.Bool.{then_some}
+use Rattle.std.specs.Prelude.{Option, IfSome, option_to_list}
 use Rattle.graph.specs.Lists.{keep, joined, range}
 use Rattle.le.specs.Rows.{puts}
 use Rattle.le.specs.declared.Row.{Row}
@@ -26,9 +28,20 @@ pub with_itself : (here : Bool) (id : ℕ) (es : List ℕ) → length es + bool_
 with_itself true id es = omega arith
 with_itself false id es = omega arith
 
-pub at_most_one : (here : Bool) → bool_byte here ≤ 1
-at_most_one true = omega arith
-at_most_one false = omega arith
+-- the node itself on a side, where it is wanted there: nothing or one number
+pub with_node : (here there : Bool) (id : ℕ) (given : Option ℕ) → given ≡ then_some here id → here ≡ there → option_to_list given ≡ itself there id
+with_node here there id given e same = ap option_to_list e ∙ each here ∙ ap (λ (h : Bool). itself h id) same
+  where
+    each : (h : Bool) → option_to_list (then_some h id) ≡ itself h id
+    each true = refl
+    each false = refl
+
+pub node_low : (here : Bool) (id : ℕ) (given : Option ℕ) → given ≡ then_some here id → id < 2 ^ 32 → IfSome given (λ v. v < 2 ^ 32)
+node_low here id given e low = rw e (each here)
+  where
+    each : (h : Bool) → IfSome (then_some h id) (λ v. v < 2 ^ 32)
+    each true = low
+    each false = tt
 
 -- the one thing on the first side, the other on the second
 abbrev pub on_side : {T : Type 0} → ℕ → T → T → T

@@ -5,6 +5,8 @@ use Rattle.le.specs.Rows.{row_at, span}
 use Rattle.le.specs.declared.Row.{Row}
 use Rattle.graph.specs.Form.{edge_row}
 use Rattle.graph.specs.Lists.{keep, joined, range}
+use Rattle.links.specs.declared.Kind.{Kind}
+use Rattle.links.specs.declared.Kind.TheVariants.{GlobalSource, EdgeSource, EdgeTarget, GlobalTarget}
 
 -- ---- the room as cells
 
@@ -39,6 +41,13 @@ pub record Heads (nodes : ℕ) (W : List ℕ) (listed : ℕ → Bool) : Type 0 w
   pub each : (x k : ℕ) → x < nodes → k < 4 → get_or W (x * 4 + k) 0 ≡ cond (listed x) 0 unlisted
 
 -- ---- chains
+
+-- which of the four cells of a node belongs to a kind of entry
+abbrev pub cell_of : Kind → ℕ
+cell_of GlobalSource = 0
+cell_of EdgeSource = 1
+cell_of EdgeTarget = 2
+cell_of GlobalTarget = 3
 
 -- the fresh nodes of a chain, the last one first, from the number that a cell holds; each is below the one that points to it
 abbrev pub Links : ℕ → List ℕ → ℕ → ℕ → List ℕ → Type 0

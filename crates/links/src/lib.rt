@@ -3,23 +3,32 @@
 // A node that is not listed has the highest number of a cell there. Fresh node f has the cell at 3 nodes + f: the fresh node before it in its chain, or 0.
 #![tactic(auto)]
 
-ghost use Rattle.std.specs.Prelude.{◌≡◌, true, false, List, [], ◌∷◌, ◌++◌, ℕ, ◌+◌, ◌*◌, ◌-◌, ◌<◌, ◌≤◌, ◌^◌, length, get_or, set, replicate};
+ghost use Rattle.std.specs.Prelude.{◌≡◌, true, false, List, [], ◌∷◌, ◌++◌, ℕ, ◌+◌, ◌*◌, ◌-◌, ◌<◌, ◌≤◌, ◌^◌, length, get_or, set, replicate, IfSome, option_to_list};
 ghost use Rattle.std.proofs.lemmas.List.Edits.{sets};
 ghost use Rattle.le.specs.Rows.{Holds, puts};
 ghost use Rattle.graph.specs.Lists.{keep, range};
 ghost use Rattle.write.specs.Write.{Put};
-ghost use Rattle.links.specs.Links.{cell_row, cell_count, cells, unlisted, is_listed, Heads, linked_to, Chain, Table, itself, spider_row, spiders_of, spiders};
+ghost use Rattle.links.specs.Links.{cell_row, cell_count, cells, unlisted, is_listed, Heads, cell_of, linked_to, Chain, Table, spider_row, spiders_of, spiders};
 
 use le::Row;
 
-// The kinds of entries a node can have.
-pub const GLOBAL_SOURCE: usize = 0;
+// The kinds of entries a node can have, in the order of its cells.
+#[derive(Clone, Copy, Debug, PartialEq, Eq)]
+pub enum Kind {
+    GlobalSource,
+    EdgeSource,
+    EdgeTarget,
+    GlobalTarget,
+}
 
-pub const EDGE_SOURCE: usize = 1;
-
-pub const EDGE_TARGET: usize = 2;
-
-pub const GLOBAL_TARGET: usize = 3;
+impl Kind {
+    // Which of the four cells of a node belongs to it.
+    fn cell(self) -> usize
+        ensures { result ≡ cell_of self }
+    {
+        self as usize
+    }
+}
 
 // The bytes of a cell.
 const CELL: usize = 2;
@@ -101,27 +110,27 @@ pub fn one_if_listed(room: &[u8], id: usize) -> usize
     requires { id * 4 < cell_count room.now }
     ensures { (result ≤ 1) × ((nodes : ℕ) → id < nodes → result ≡ length (keep (is_listed nodes (cells room.now)) (id ∷ []))) }
 {
-    if listed(room, id) { 1 } else { 0 }
+    listed(room, id) as usize
 }
 
-// How many nodes are listed.
+// How many nodes are listed. A `for`: to the closure of a chain over the ids no bound on the id is known, without which `listed` says nothing.
 pub fn count_listed(room: &[u8], nodes: usize) -> usize
     requires { nodes * 4 ≤ cell_count room.now }
     ensures { (result ≡ length (keep (is_listed nodes (cells room.now)) (range 0 nodes))) × (result ≤ nodes) }
 {
     let mut n: usize = 0;
     for id in 0..nodes {
-        n = n + one_if_listed(room, id);
+        n += one_if_listed(room, id);
     }
     n
 }
 
 // A fresh node, for an entry of this kind of a listed node: it goes in front of the chain.
-pub fn link(room: &mut [u8], nodes: usize, id: usize, kind: usize, fresh: usize)
-    requires { (id < nodes) × (kind < 4) × (nodes ≤ fresh) × (fresh < unlisted) × (nodes * 3 + fresh < cell_count room.old) }
-    ensures { cells room.new ≡ linked_to nodes id kind fresh (cells room.old) }
+pub fn link(room: &mut [u8], nodes: usize, id: usize, kind: Kind, fresh: usize)
+    requires { (id < nodes) × (nodes ≤ fresh) × (fresh < unlisted) × (nodes * 3 + fresh < cell_count room.old) }
+    ensures { cells room.new ≡ linked_to nodes id (cell_of kind) fresh (cells room.old) }
 {
-    let head = id * 4 + kind;
+    let head = id * 4 + kind.cell();
     let before = cell(room, head);
     set_cell(room, nodes * 3 + fresh, before);
     set_cell(room, head, fresh);
@@ -135,7 +144,7 @@ fn chain_length(room: &[u8], nodes: usize, head: usize) -> usize
     let mut n: usize = 0;
     let mut f = cell(room, head);
     while f != 0 {
-        n = n + 1;
+        n += 1;
         f = cell(room, nodes * 3 + f);
     }
     n
@@ -149,20 +158,20 @@ fn put_chain(room: &[u8], nodes: usize, head: usize, out: &mut [u8], r: Row, end
     let mut at = end;
     let mut f = cell(room, head);
     while f != 0 {
-        at = at - 1;
+        at -= 1;
         le::put_number(out, r, at, f);
         f = cell(room, nodes * 3 + f);
     }
 }
 
 // The node itself as number k of a row, where it stands on this side of a spider. Answered is the next index.
-fn put_itself(out: &mut [u8], r: Row, k: usize, id: usize, here: bool) -> usize
-    requires { Holds out.old r (k + length (itself here id)) × (id < 2 ^ 32) }
-    ensures { Put out.old r k (itself here id) out.new result }
+fn put_itself(out: &mut [u8], r: Row, k: usize, node: Option<usize>) -> usize
+    requires { Holds out.old r (k + length (option_to_list node)) × IfSome node (λ id. id < 2 ^ 32) }
+    ensures { Put out.old r k (option_to_list node) out.new result }
 {
-    if !here {
+    let Some(id) = node else {
         return k;
-    }
+    };
     le::put_number(out, r, k, id);
     k + 1
 }
@@ -173,16 +182,15 @@ fn put_side(
     nodes: usize,
     head: usize,
     n: usize,
-    id: usize,
-    here: bool,
+    node: Option<usize>,
     out: &mut [u8],
     r: Row,
     k: usize,
 ) -> usize
-    requires { ((es : List ℕ) × Chain nodes room.now head es × (n ≡ length es) × Holds out.old r (k + length (itself here id ++ es))) × (id < 2 ^ 32) }
-    ensures { (es : List ℕ) → Chain nodes room.now head es → n ≡ length es → Put out.old r k (itself here id ++ es) out.new result }
+    requires { ((es : List ℕ) × Chain nodes room.now head es × (n ≡ length es) × Holds out.old r (k + length (option_to_list node ++ es))) × IfSome node (λ id. id < 2 ^ 32) }
+    ensures { (es : List ℕ) → Chain nodes room.now head es → n ≡ length es → Put out.old r k (option_to_list node ++ es) out.new result }
 {
-    let end = put_itself(out, r, k, id, here) + n;
+    let end = put_itself(out, r, k, node) + n;
     put_chain(room, nodes, head, out, r, end);
     end
 }
@@ -213,7 +221,8 @@ fn put_chains(
     let mut here = first;
     let mut next = k + 2;
     for half in 0..2 {
-        next = put_side(room, nodes, head + half, n, id, here, out, r, next);
+        let node = here.then_some(id);
+        next = put_side(room, nodes, head + half, n, node, out, r, next);
         n = b;
         here = second;
     }

@@ -11,10 +11,10 @@ ghost use Rattle.graph.specs.Graph.{Graph};
 ghost use Rattle.graph.specs.Answer.{refusal, ◌else◌};
 ghost use Rattle.graph.specs.Calls as calls;
 ghost use Rattle.graph.specs.Calls.{id_list, label_list};
-ghost use Rattle.form.specs.Form.{numbered, counted, tested};
+ghost use Rattle.form.specs.Form.{told, counted, tested};
 ghost use Rattle.lists.specs.Reach.{reach, highest};
 
-use form::{Refusal, Sizes, Step};
+use form::{Refusal, Sizes};
 use le::Row;
 
 // The count or id at a place.
@@ -25,33 +25,15 @@ pub fn number_at(s: &[u8], at: usize, width: usize) -> usize
     le::number(s, Row { at, width }, 0)
 }
 
-// The least bound that is above an id and not below another bound.
-fn above(bound: usize, id: usize) -> usize
-    requires { id < 2 ^ 32 }
-    ensures { result ≡ max bound (id + 1) }
-{
-    if bound <= id { id + 1 } else { bound }
-}
-
-// The higher of two ids.
-fn higher(a: u32, b: u32) -> u32
-    ensures { result ≡ max a b }
-{
-    if a < b { b } else { a }
-}
-
 // The highest of the n ids from `at` on, 0 where there is none. Each is looked at once and nothing is decided here.
 fn highest_of(s: &[u8], at: usize, n: usize, width: usize) -> u32
     requires { Holds s.now (row_at at width) n }
     ensures { result ≡ highest (span s.now (row_at at width) 0 n) }
 {
-    let end = at + n * width;
     let mut most: u32 = 0;
-    let mut place = at;
-    while place < end {
-        let id = number_at(s, place, width);
-        most = higher(most, id as u32);
-        place += width;
+    for k in 0..n {
+        let id = number_at(s, at + k * width, width);
+        most = most.max(id as u32);
     }
     most
 }
@@ -64,8 +46,8 @@ pub fn reach_of(s: &[u8], at: usize, n: usize, width: usize, bound: usize) -> us
     if n == 0 {
         return bound;
     }
-    let most = highest_of(s, at, n, width);
-    above(bound, most as usize)
+    let most = highest_of(s, at, n, width) as usize;
+    bound.max(most + 1)
 }
 
 // The index of the first of the n ids from `at` on that is not below the bound; n where there is none.
@@ -82,60 +64,57 @@ pub fn first_bad(s: &[u8], at: usize, n: usize, width: usize, bound: usize) -> u
 }
 
 // A list of ids of this width: 7 a broken entry at its end, or an id not below the count; or how many ids it has.
-pub fn id_list(ids: &[u8], width: usize, count: usize) -> Step
+pub fn id_list(ids: &[u8], width: usize, count: usize) -> Result<usize, Refusal>
     requires { Wide width }
-    ensures { (f : graph.Format) → f.width ≡ width → result ≡ counted (id_list f count ids.now) }
+    ensures { (f : graph.Format) → f.width ≡ width → told result ≡ counted (id_list f count ids.now) }
 {
     let n = ids.len() / width;
     if ids.len() % width != 0 {
-        return Step::Refused(Refusal { no: 7, place: n });
+        return Err(Refusal::BadEntry(n));
     }
     if count < reach_of(ids, 0, n, width, 0) {
-        return Step::Refused(Refusal {
-            no: 7,
-            place: first_bad(ids, 0, n, width, count),
-        });
+        return Err(Refusal::BadEntry(first_bad(ids, 0, n, width, count)));
     }
-    Step::Number(n)
+    Ok(n)
 }
 
 // A list of labels: 7 a broken entry at its end, or how many labels it has.
-pub fn label_list(labels: &[u8]) -> Step
-    ensures { result ≡ counted (label_list labels.now) }
+pub fn label_list(labels: &[u8]) -> Result<usize, Refusal>
+    ensures { told result ≡ counted (label_list labels.now) }
 {
     let n = labels.len() / 4;
     if labels.len() % 4 != 0 {
-        return Step::Refused(Refusal { no: 7, place: n });
+        return Err(Refusal::BadEntry(n));
     }
-    Step::Number(n)
+    Ok(n)
 }
 
 // A single id: 7 it is not below the count, or the id.
-pub fn known(id: u32, count: usize) -> Step
-    ensures { result ≡ numbered (calls.known count id) }
+pub fn known(id: u32, count: usize) -> Result<usize, Refusal>
+    ensures { told result ≡ calls.known count id }
 {
     if count <= id as usize {
-        return Step::Refused(Refusal { no: 7, place: 0 });
+        return Err(Refusal::BadEntry(0));
     }
-    Step::Number(id as usize)
+    Ok(id as usize)
 }
 
 // The pairs of a graph of these sizes: 8 one is pending.
-pub fn unpaired(z: Sizes) -> Step
-    ensures { (g : Graph) → length g.pairs ≡ z.pairs → result ≡ tested (calls.unpaired g) }
+pub fn unpaired(z: Sizes) -> Result<(), Refusal>
+    ensures { (g : Graph) → length g.pairs ≡ z.pairs → told result ≡ tested (calls.unpaired g) }
 {
     if z.pairs != 0 {
-        return Step::Refused(Refusal { no: 8, place: 0 });
+        return Err(Refusal::PairPending);
     }
-    Step::Number(0)
+    Ok(())
 }
 
 // The work room lent: 10 it is shorter than the call needs.
-pub fn work_room(lent: usize, needed: usize) -> Step
-    ensures { result ≡ tested (leb needed lent else refusal 10) }
+pub fn work_room(lent: usize, needed: usize) -> Result<(), Refusal>
+    ensures { told result ≡ tested (leb needed lent else refusal 10) }
 {
     if lent < needed {
-        return Step::Refused(Refusal { no: 10, place: 0 });
+        return Err(Refusal::NoRoom);
     }
-    Step::Number(0)
+    Ok(())
 }

@@ -9,7 +9,8 @@ use lib.Seq.{sets, ext_get_or}
 use borrow.Author.Tests.{le-leb, lt-leb}
 use Rattle.choice.specs.Calls.{showing}
 use Rattle.form.specs.Form.{Gives}
-use Rattle.form.specs.declared.Outcome.TheVariants as call
+use Rattle.form.specs.declared.Refusal.TheVariants as why
+use Rattle.std.specs.Prelude.{Ok, Err}
 use Rattle.form.proofs.Answers.{gives_refused, gives_done}
 use Rattle.graph.specs.Answer.{◌else◌, ◌>>=◌, ◌>>◌}
 use Rattle.graph.specs.Calls.{fit}
@@ -40,13 +41,13 @@ module _ (f : Format) (w : ℕ) (width : f.width ≡ w) (list : List ℕ) (steps
   long : length (row f.width list) ≡ count * w
   long = length_row f.width list ∙ (λ i. many i * width i)
 
-  pub showing_10 : (old : List ℕ) → length old < count * w → Gives (showing f (length old) (loop_as list steps)) (call.Refused (record { no = 10; place = 0 })) old old
+  pub showing_10 : (old : List ℕ) → length old < count * w → Gives (showing f (length old) (loop_as list steps)) (Err why.NoRoom) old old
   unfolding showing fit ◌else◌ ◌>>◌ ◌>>=◌
   showing_10 old h =
       let l : length old < length (row f.width list) = omega (arith, long) in
-      gives_refused (record { no = 10; place = 0 }) old (rw (lt-leb (length (row f.width list)) (length old) l))
+      gives_refused why.NoRoom old (rw (lt-leb (length (row f.width list)) (length old) l))
 
-  pub showing_0 : (old new : List ℕ) → count * w ≤ length old → new ≡ puts old (row_at 0 w) 0 list → Gives (showing f (length old) (loop_as list steps)) (call.Done count steps) old new
+  pub showing_0 : (old new : List ℕ) → count * w ≤ length old → new ≡ puts old (row_at 0 w) 0 list → Gives (showing f (length old) (loop_as list steps)) (Ok (record { a = count; b = steps })) old new
   unfolding showing puts fit ◌else◌ ◌>>◌ ◌>>=◌
   showing_0 old new h e =
       let put = row f.width list in

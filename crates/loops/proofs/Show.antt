@@ -43,7 +43,7 @@ some_stay end n l h = go (n - end) refl
 
 -- ---- what the first free removal leaves is a core, and the walk may start
 
-module _ (s : Source) (g : Graph) (nodes n : ℕ) (d : Drawn g nodes n) (Y : List ℕ) (long : picked_at ≤ length Y) (end : ℕ) (f : First s g Y nodes n end) where
+module _ {s : Source} {g : Graph} {nodes n : ℕ} (d : Drawn g nodes n) {Y : List ℕ} (long : picked_at ≤ length Y) {end : ℕ} (f : First s g Y nodes n end) where
   still : Between (arcs g) n f.left (degrees_in Y n) [] []
   still = first_still s g nodes n d Y long end f
 
@@ -118,7 +118,7 @@ module _ (s : Source) (g : Graph) (nodes n : ℕ) (d : Drawn g nodes n) (Y : Lis
 
 -- ---- the loop that the walk closes, over the room
 
-module _ (s : Source) (W : List ℕ) (nodes n : ℕ) (arcs : List Arc) (C : Set) (told : Told s W nodes n arcs C) where
+module _ {s : Source} {W : List ℕ} {nodes n : ℕ} {arcs : List Arc} {C : Set} (told : Told s W nodes n arcs C) where
   -- by the rule the walk goes where the room says
   walks_moves : {seen xs : List ℕ} {v w : ℕ} → Walks arcs C seen v xs w → T (has C v) → (ys : List ℕ) × (xs ≡ v ∷ ys) × Moves (next_in s W nodes) v ys w
   walks_moves (closes {v = v} {w = w} l m) t = ([], refl, lowest_only C (Leads arcs v) _ w (next_lowest s W nodes n arcs C told v t) l)
@@ -126,7 +126,7 @@ module _ (s : Source) (W : List ℕ) (nodes n : ℕ) (arcs : List Arc) (C : Set)
       let h = walks_moves r l.inside in
       (u ∷ h.0, ap (◌∷◌ v) h.1, (lowest_only C (Leads arcs v) _ u (next_lowest s W nodes n arcs C told v t) l, h.2))
 
-module _ (s : Source) (W : List ℕ) (nodes left : ℕ) (a : Starting s W nodes left) where
+module _ {s : Source} {W : List ℕ} {nodes left : ℕ} (a : Starting s W nodes left) where
   abbrev node : ℕ → Bool
   node v = ltb v nodes
 
@@ -152,7 +152,7 @@ module _ (s : Source) (W : List ℕ) (nodes left : ℕ) (a : Starting s W nodes 
   ring =
       let first = first_lowest a.arcs node a.core a.told.stable a.some_node.0 a.some_node.1 passes (left - 1) all in
       let rule = walk_by_rule a.arcs node a.core a.told.stable a.some_node.0 a.some_node.1 passes (left - 1) all in
-      let m = walks_moves s W nodes a.n a.arcs a.core a.told rule first.inside in
+      let m = walks_moves a.told rule first.inside in
       let r = since_moves (next_in s W nodes) (lowest (passing node a.core)) m.0 met m.2 (subst (In met) m.1 in_visits) in
       (r.0, ap (since met) m.1 ∙ r.1, r.2)
 
@@ -167,25 +167,25 @@ module _ (s : Source) (W : List ℕ) (nodes left : ℕ) (a : Starting s W nodes 
       let few = visits_few a.arcs node a.core a.told.stable a.some_node.0 a.some_node.1 passes (left - 1) all in
       omega (arith, ap length ring.1, since_length met visits, few, a.left_is, left_few a)
 
-module _ (s : Source) (W : List ℕ) (nodes left : ℕ) (a : Starting s W nodes left) (w : ℕ) (is : w ≡ (walk_from (left - 1) a.arcs (λ v. ltb v nodes) a.core).again) where
+module _ {s : Source} {W : List ℕ} {nodes left : ℕ} (a : Starting s W nodes left) {w : ℕ} (is : w ≡ (walk_from (left - 1) a.arcs (λ v. ltb v nodes) a.core).again) where
   abbrev pub looping : Looping s W nodes w
   looping = record {
     n = a.n;
-    others = (ring s W nodes left a).0;
+    others = (ring a).0;
     lists = a.told.lists;
     few = a.told.few;
     less = a.told.less;
-    moves = subst (λ (x : ℕ). Moves (next_in s W nodes) x (ring s W nodes left a).0 x) (sym is) (ring s W nodes left a).2;
-    once = subst (λ (x : ℕ). Distinct (x ∷ (ring s W nodes left a).0)) (sym is) (ring_once s W nodes left a);
-    low = subst (λ (v : ℕ). (x : ℕ) → In x (v ∷ (ring s W nodes left a).0) → x < a.n) (sym is) (ring_low s W nodes left a);
-    short = ring_short s W nodes left a;
+    moves = subst (λ (x : ℕ). Moves (next_in s W nodes) x (ring a).0 x) (sym is) (ring a).2;
+    once = subst (λ (x : ℕ). Distinct (x ∷ (ring a).0)) (sym is) (ring_once a);
+    low = subst (λ (v : ℕ). (x : ℕ) → In x (v ∷ (ring a).0) → x < a.n) (sym is) (ring_low a);
+    short = ring_short a;
   }
 
   -- laid, it is the loop that the walk closes
-  pub laid_shown : (X : List ℕ) (steps count : ℕ) → LaidIn X (w ∷ (ring s W nodes left a).0) count → Closes 1 (walk_from (left - 1) a.arcs (λ v. ltb v nodes) a.core) steps w
+  pub laid_shown : {X : List ℕ} {steps count : ℕ} → LaidIn X (w ∷ (ring a).0) count → Closes 1 (walk_from (left - 1) a.arcs (λ v. ltb v nodes) a.core) steps w
       → loop_as (part X waiting_at count) steps ≡ closed_by (walk_from (left - 1) a.arcs (λ v. ltb v nodes) a.core)
-  laid_shown X steps count l c =
+  laid_shown {X} {steps} {count} l c =
       let list : part X waiting_at count ≡ since (walk_from (left - 1) a.arcs (λ v. ltb v nodes) a.core).again (walk_from (left - 1) a.arcs (λ v. ltb v nodes) a.core).visits =
-      l.put ∙ ap (λ (x : ℕ). x ∷ (ring s W nodes left a).0) is ∙ sym (ring s W nodes left a).1 in
+      l.put ∙ ap (λ (x : ℕ). x ∷ (ring a).0) is ∙ sym (ring a).1 in
       let number : steps ≡ length (walk_from (left - 1) a.arcs (λ v. ltb v nodes) a.core).visits = omega (arith, c.steps) in
       λ i. loop_as (list i) (number i)

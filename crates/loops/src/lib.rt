@@ -9,14 +9,15 @@ ghost use Rattle.le.specs.Rows.{Holds, row_at, span};
 ghost use Rattle.graph.specs.Graph.{Format};
 ghost use Rattle.choice.specs.Loop.{node_step, edge_step, walk_from, loop};
 ghost use Rattle.choice.specs.Calls.{showing, find_loop_call};
-ghost use Rattle.form.specs.Form.{body_of, Gives};
-ghost use Rattle.form.specs.Stored.{graph_of, Stored};
+ghost use Rattle.form.specs.Form.{Gives};
+ghost use Rattle.form.specs.Drawn.{graph_in};
 ghost use Rattle.tables.specs.Tables.{most_vertices, most_ports, waiting_at, room_removal};
+ghost use Rattle.incidence.specs.Incidence.{source_in};
 ghost use Rattle.removal.specs.Room.{source, part, start_of, count_of, room_list};
 ghost use Rattle.cycle.specs.Begin.{First};
 ghost use Rattle.loops.specs.Walk.{lower_live, lowest_live, vertices_of, next_in, FirstLive, AtNode, AtEdge, rest, Closes, Starting, Looping, LaidIn, loop_as};
 
-use form::{Outcome, Reading, Refusal, Sizes, Step};
+use form::{Done, Drawing, Refusal};
 use le::Row;
 
 // The bytes of work room that the call needs.
@@ -50,6 +51,7 @@ fn lowest_listed(room: &[u8], start: usize, count: usize) -> usize
 }
 
 // The same in a list that stands in the form, as ids: in whatever order they stand there.
+// One function over a closure would be no plainer: its contract would have to name the list that the closure reads.
 fn lowest_formed(room: &[u8], s: &[u8], r: Row, start: usize, count: usize) -> usize
     requires { Holds s.now r (start + count) × (room_removal ≤ length room.now) }
     ensures { result ≡ lowest_live (words room.now) most_vertices (span s.now r start count) }
@@ -143,14 +145,12 @@ fn lowest_node(room: &[u8], nodes: usize) -> usize
     requires { (nodes ≤ most_vertices) × (room_removal ≤ length room.now) }
     ensures { FirstLive (words room.now) nodes result }
 {
-    let mut v: usize = 0;
-    while v < nodes {
+    for v in 0..nodes {
         if le::word(room, 2 * v) != 0 {
             return v;
         }
-        v += 1;
     }
-    v
+    nodes
 }
 
 // How a walk ended: the steps taken, and the vertex that was met again.
@@ -210,12 +210,18 @@ fn lay_loop(room: &mut [u8], s: &[u8], r: Row, nodes: usize, again: usize) -> us
 }
 
 // The laid loop as the answer; or 10.
-fn put_loop(list: &mut [u8], room: &[u8], width: usize, count: usize, steps: usize) -> Outcome
+fn put_loop(
+    list: &mut [u8],
+    room: &[u8],
+    width: usize,
+    count: usize,
+    steps: usize,
+) -> Result<Done, Refusal>
     requires { Wide width × (count ≤ most_vertices) × (room_removal ≤ length room.now) }
     ensures { (f : Format) → f.width ≡ width → Gives (showing f (length list.old) (loop_as (part (words room.now) waiting_at count) steps)) result list.old list.new }
 {
     if list.len() < count * width {
-        return Outcome::Refused(Refusal { no: 10, place: 0 });
+        return Err(Refusal::NoRoom);
     }
     le::copy_numbers(
         list,
@@ -229,42 +235,40 @@ fn put_loop(list: &mut [u8], room: &[u8], width: usize, count: usize, steps: usi
         0,
         count,
     );
-    Outcome::Done { a: count, b: steps }
+    Ok(Done { a: count, b: steps })
 }
 
 // A loop of the stored drawing, of which so many vertices are left after the first free removal.
-fn show_loop(list: &mut [u8], room: &mut [u8], src: &[u8], z: Sizes, left: usize) -> Outcome
-    requires room_removal_in_bounds { (room_removal ≤ length room.old) × Stored src.now z × (0 < left) × (left ≤ z.nodes + z.edges) }
-    requires first { First (source src.now (body_of z)) (graph_of src.now) (words room.old) z.nodes (z.nodes + z.edges) (z.nodes + z.edges - left) }
-    ensures { (f : Format) → f.width ≡ z.width → Gives (showing f (length list.old) (loop (graph_of src.now))) result list.old list.new }
+fn show_loop(
+    list: &mut [u8],
+    room: &mut [u8],
+    drawing: Drawing<'_>,
+    left: usize,
+) -> Result<Done, Refusal>
+    requires room_removal_in_bounds { (room_removal ≤ length room.old) × (0 < left) × (left ≤ drawing.sizes.nodes + drawing.sizes.edges) }
+    requires first { First (source_in drawing) (graph_in drawing) (words room.old) drawing.sizes.nodes (drawing.sizes.nodes + drawing.sizes.edges) (drawing.sizes.nodes + drawing.sizes.edges - left) }
+    ensures { (f : Format) → f.width ≡ drawing.entry.sizes.width → Gives (showing f (length list.old) (loop (graph_in drawing.entry))) result list.old list.new }
 {
-    let r = form::body_row(z);
-    let c = walk(room, src, r, z.nodes, left);
+    let z = drawing.sizes;
+    let r = drawing.body();
+    let c = walk(room, drawing.src, r, z.nodes, left);
     let again = c.again;
-    let count = lay_loop(room, src, r, z.nodes, again);
+    let count = lay_loop(room, drawing.src, r, z.nodes, again);
     put_loop(list, room, z.width, count, c.steps)
 }
 
 // One loop of the stored drawing: how many vertices stand in the list, and how many steps found it; none of either where there is no directed cycle.
-pub fn find_loop(src: &[u8], list: &mut [u8], room: &mut [u8]) -> Outcome
+pub fn find_loop(src: &[u8], list: &mut [u8], room: &mut [u8]) -> Result<Done, Refusal>
     ensures { Gives (find_loop_call src.now (length list.old) (length room.old)) result list.old list.new }
 {
-    let lent = lists::work_room(room.len(), ROOM_FIND_LOOP);
-    let Step::Number(_) = lent else {
-        return Outcome::Refused(lent.refusal());
-    };
-    let graph = read::read(src);
-    let Reading::Sized(z) = graph else {
-        return Outcome::Refused(graph.refusal());
-    };
-    let pairs = lists::unpaired(z);
-    let Step::Number(_) = pairs else {
-        return Outcome::Refused(pairs.refusal());
-    };
-    let end = cycle::first_removal(room, src, z);
+    lists::work_room(room.len(), ROOM_FIND_LOOP)?;
+    let drawing = read::read(src)?;
+    let z = drawing.sizes;
+    lists::unpaired(z)?;
+    let end = cycle::first_removal(room, drawing);
     let n = z.nodes + z.edges;
     if end == n {
-        return Outcome::Done { a: 0, b: 0 };
+        return Ok(Done { a: 0, b: 0 });
     }
-    show_loop(list, room, src, z, n - end)
+    show_loop(list, room, drawing, n - end)
 }

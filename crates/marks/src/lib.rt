@@ -32,7 +32,8 @@ const LESS_IN: u32 = 4294967295;
 
 const LESS_OUT: u32 = 4294901760;
 
-// The mark of a vertex that has gone, of one that remains, of a node that was chosen, and of one that remains and is kept. What remains is odd.
+// The mark of a vertex that has gone, of one that remains, of a node that was chosen, and of one that remains and is kept. What remains is odd. They are
+// constants and no enum, since they are bytes in lent memory.
 const GONE: u8 = 0;
 
 const REMAINS: u8 = 1;
@@ -47,11 +48,7 @@ fn shift(room: &mut [u8], v: usize, delta: u32)
     ensures { room.new ≡ shifted delta v room.old }
 {
     let w = le::word(room, DEGREES + v);
-    le::put4(
-        room,
-        4 * (DEGREES + v),
-        std::num::wrapping_add_u32(w, delta),
-    );
+    le::put4(room, 4 * (DEGREES + v), w.wrapping_add(delta));
 }
 
 // Adds to the word of each of these nodes.
@@ -69,10 +66,7 @@ pub fn shift_each(room: &mut [u8], src: &[u8], r: Row, first: usize, count: usiz
 fn is_nought(w: u32) -> bool
     ensures { result ≡ nought w }
 {
-    if w % 65536 == 0 {
-        return true;
-    }
-    w / 65536 == 0
+    w % 65536 == 0 || w / 65536 == 0
 }
 
 // Whether node v remains and has no arc in or no arc out.
@@ -80,10 +74,7 @@ fn is_loose(room: &[u8], v: usize) -> bool
     requires { (v < most_nodes) × (room_cycle_breaking_nodes_scanning ≤ length room.now) }
     ensures { result ≡ loose room.now v }
 {
-    if room[v] % 2 != 1 {
-        return false;
-    }
-    is_nought(le::word(room, DEGREES + v))
+    room[v] % 2 == 1 && is_nought(le::word(room, DEGREES + v))
 }
 
 // Node v goes if it is loose; answered is how many went.
@@ -159,10 +150,8 @@ fn stays(room: &[u8], src: &[u8], r: Row, e: EdgeAt, v: usize) -> bool
     if room[v] % 2 != 1 {
         return true;
     }
-    if !some_left(room, src, r, e.first, e.sources) {
-        return false;
-    }
-    some_left(room, src, r, e.first + e.sources, e.targets)
+    some_left(room, src, r, e.first, e.sources)
+        && some_left(room, src, r, e.first + e.sources, e.targets)
 }
 
 // The edge that is vertex v goes if it must; answered is how many vertices went.
@@ -193,9 +182,7 @@ pub fn mark_all(room: &mut [u8], n: usize)
     requires { n ≤ length room.old }
     ensures { room.new ≡ sets room.old 0 (replicate n 1) }
 {
-    for v in 0..n {
-        room[v] = REMAINS;
-    }
+    room[..n].fill(REMAINS);
 }
 
 // These nodes are kept.

@@ -15,8 +15,12 @@ use Rattle.steps.specs.Calls.{Built, stopped, built, build_call}
 use Rattle.steps.specs.RefusedBy.{build_refusals}
 use Rattle.steps.proofs.Answered.{build_answer}
 use Rattle.steps.proofs.RefusedBy.{build_by}
-use Rattle.build.specs.Turns.{ending_of, GivesBuilt}
-use Rattle.build.specs.declared.Ending.{Ending}
+use Rattle.std.specs.Prelude.{Ok, Err}
+use Rattle.std.specs.Prelude.{Result as Returned}
+use Rattle.form.specs.Form.{meant_by}
+use Rattle.form.specs.declared.Done.{Done}
+use Rattle.build.specs.Turns.{told_built, built_outcome, GivesBuilt}
+use Rattle.build.specs.declared.Stop.{Stop}
 use Rattle.packing.specs.Unpacked.{code_in, a_in, b_in}
 use Rattle.ohg.specs.Built.{packed_built, ReturnsBuilt, RangedBuilt, packed_ending, PacksEnding}
 use Rattle.ohg.specs.ToldBuilt.{code_of_built, a_of_built, b_of_built}
@@ -37,21 +41,35 @@ build_ranged b steps t u room work_room = record {
 
 -- ---- packing
 
-same_packed : (a : Built Result) → packed_ending (ending_of a) ≡ packed_built a
-same_packed (stopped k r) = refl
-same_packed (built x) = refl
+-- of a call's answer what the ending in code says of it
+stopped_so : (a : Built Result) (x : Stop) → stopped x.index (meant_by x.refusal) ≡ built_outcome a → a ≡ stopped x.index (meant_by x.refusal)
+stopped_so (stopped k r) x e =
+    let i : k ≡ x.index = cc in
+    let j : r ≡ meant_by x.refusal = cc in
+    λ t. stopped (i t) (j t)
+stopped_so (built y) x e = let o : ◌≡◌ {A = ℕ} 0 1 = cc in absurd (omega arith)
+
+built_so : (a : Built Result) (x : Done) → built x ≡ built_outcome a → (y : Result) × (a ≡ built y) × (x ≡ record { a = y.a; b = y.b })
+built_so (stopped k r) x e = let o : ◌≡◌ {A = ℕ} 0 1 = cc in absurd (omega arith)
+built_so (built y) x e = (y, refl, cc)
 
 -- the ending of a call whose numbers fit
-pub packs_ending : {a : Built Result} {x : Ending} → RangedBuilt a → x ≡ ending_of a → PacksEnding x
-packs_ending {a} h e = subst PacksEnding (sym e) (go a h)
-  where
-    go : (a : Built Result) → RangedBuilt a → PacksEnding (ending_of a)
-    go (stopped k r) h = (h.no k r refl).1
-    go (built y) h = h.numbers y refl
+pub packs_ending : {a : Built Result} (x : Returned Done Stop) → RangedBuilt a → told_built x ≡ built_outcome a → PacksEnding x
+packs_ending (Err x) h is = tt
+packs_ending {a} (Ok x) h is =
+    let t = built_so a x is in
+    let n = h.numbers t.0 t.1 in
+    (omega (arith, n.0, ap (λ (d : Done). d.a) t.2), omega (arith, n.1, ap (λ (d : Done). d.b) t.2))
 
 -- what is returned of it
-pub returns_built_of : {a : Built Result} {x : Ending} {old new : List ℕ} {r : ℕ} → GivesBuilt a x old new → r ≡ packed_ending x → ReturnsBuilt a r old new
-returns_built_of {a} g p = record { number = p ∙ ap packed_ending g.result ∙ same_packed a; buffer = g.buffer }
+packed_of : (a : Built Result) (x : Returned Done Stop) → told_built x ≡ built_outcome a → packed_ending x ≡ packed_built a
+packed_of a (Err x) is = sym (ap packed_built (stopped_so a x is))
+packed_of a (Ok x) is =
+    let t = built_so a x is in
+    ap (λ (d : Done). packed_ending (Ok d)) t.2 ∙ sym (ap packed_built t.1)
+
+pub returns_built_of : {a : Built Result} {x : Returned Done Stop} {old new : List ℕ} {r : ℕ} → GivesBuilt a x old new → r ≡ packed_ending x → ReturnsBuilt a r old new
+returns_built_of {a} {x} g p = record { number = p ∙ packed_of a x g.result; buffer = g.buffer }
 
 -- ---- unpacking
 

@@ -10,7 +10,6 @@ use Rattle.graph.specs.Answer.{Refusal, Result}
 use Rattle.graph.specs.Graph.{Graph}
 use Rattle.graph.proofs.Versions.{fitting_formed}
 use Rattle.steps.specs.Calls.{Built, stopped, built, build_call, laid_built}
-use Rattle.steps.specs.Singly.{singly}
 use Rattle.steps.proofs.Answered.{build_answer, build_fault}
 use Rattle.packing.specs.Caller.{Draws}
 use Rattle.packing.specs.Unpacked.{code_in, a_in, b_in}

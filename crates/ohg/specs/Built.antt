@@ -3,8 +3,10 @@
 use Rattle.std.specs.Prelude.{ℕ, ◌≤◌, ◌<◌, ◌^◌, min, ◌≡◌, List}
 use Rattle.graph.specs.Answer.{Refusal, Result}
 use Rattle.steps.specs.Calls.{Built, stopped, built, laid_built}
-use Rattle.build.specs.declared.Ending.{Ending}
-use Rattle.build.specs.declared.Ending.TheVariants as ending
+use Rattle.std.specs.Prelude.{Result as Ending, Ok, Err}
+use Rattle.form.specs.Form.{meant_by}
+use Rattle.form.specs.declared.Done.{Done}
+use Rattle.build.specs.declared.Stop.{Stop}
 use Rattle.packing.specs.Packed.{pack}
 
 -- a refusal's number, its step's index and its place; or code 0 and the two numbers of the answer. "An index above 16,777,215 is given as that"
@@ -23,10 +25,10 @@ pub record RangedBuilt (a : Built Result) : Type 0 where
   pub numbers : (x : Result) → a ≡ built x → (x.a < 2 ^ 24) × (x.b < 2 ^ 32)
 
 -- the same of the ending in code
-abbrev pub packed_ending : Ending → ℕ
-packed_ending (ending.Done a b) = pack 0 a b
-packed_ending (ending.Stopped x) = pack x.refusal.no (min x.index 16777215) (min x.refusal.place 4294967295)
+abbrev pub packed_ending : Ending Done Stop → ℕ
+packed_ending (Ok x) = pack 0 x.a x.b
+packed_ending (Err x) = pack (meant_by x.refusal).no (min x.index 16777215) (min (meant_by x.refusal).place 4294967295)
 
-abbrev pub PacksEnding : Ending → Type 0
-PacksEnding (ending.Done a b) = (a < 2 ^ 24) × (b < 2 ^ 32)
-PacksEnding (ending.Stopped x) = x.refusal.no < 256
+abbrev pub PacksEnding : Ending Done Stop → Type 0
+PacksEnding (Ok x) = (x.a < 2 ^ 24) × (x.b < 2 ^ 32)
+PacksEnding (Err x) = Unit {0}

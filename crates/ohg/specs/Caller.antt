@@ -3,10 +3,8 @@
 -- Assumes nothing.
 use Rattle.std.specs.Prelude.{◌≡◌, cond, List, [], ◌∷◌, ◌⊎◌, ◌↔◌, ℕ, ◌+◌, ◌*◌, ◌/◌, ◌%◌, ◌≤◌, T, eqb, length, take, drop}
 use Rattle.le.specs.Le.{Below, number_at, numbers}
-use Rattle.graph.specs.Answer.{answered}
 use Rattle.graph.specs.Graph.{Graph}
 use Rattle.graph.specs.Spider.{spiderize}
-use Rattle.graph.specs.Versions.{read}
 use Rattle.choice.specs.Arcs.{In, vertices, Cycle, NoCycle}
 use Rattle.choice.specs.Choice.{Chooses, Ascends}
 use Rattle.choice.specs.Drawing.{arcs, vertex_count, selectable}

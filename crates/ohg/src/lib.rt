@@ -1,15 +1,15 @@
 // The functions that the tool calls from C, where `ohg_c` exports each under its name. Each checks its input itself, and returns code, a and b packed into one number.
 #![tactic(auto)]
 
-ghost use Rattle.std.specs.Prelude.{◌≡◌, min, length};
+ghost use Rattle.std.specs.Prelude.{◌≡◌, length};
 ghost use Rattle.graph.specs.Calls.{read_call, rewrite_call, empty_call, discrete_call, identity_call, singleton_call, new_node_call, new_edge_call, new_operation_call, unify_call, add_edge_source_call, add_edge_target_call, delete_edges_call, delete_nodes_call, quotient_call, spiderize_call, spiderize_nodes_call, once_fed_call};
 ghost use Rattle.choice.specs.Calls.{cycle_breaking_nodes_call, cycle_breaking_nodes_keeping_call, cycle_breaking_nodes_scanning_call, no_loop_call, find_loop_call, reasons_call};
 ghost use Rattle.steps.specs.Calls.{build_call};
 ghost use Rattle.packing.specs.Packed.{packed, Returns, ReturnsMap};
 ghost use Rattle.ohg.specs.Built.{ReturnsBuilt, packed_ending, PacksEnding};
 
-use build::Ending;
-use form::Outcome;
+use build::Stop;
+use form::Done;
 use packing::pack;
 
 // The sizes of the graph: nodes, edges, ports, global sources, global targets, pairs.
@@ -226,29 +226,14 @@ pub fn ohg_once_fed(src: &[u8], room: &mut [u8]) -> u64
     pack(x)
 }
 
-// An index in the 24 bits that are there for it: one that has more is given as the highest number.
-fn index_in_24_bits(index: usize) -> u64
-    ensures { result ≡ min index 16777215 }
-{
-    if index < 16777215 {
-        index as u64
-    } else {
-        16777215
-    }
-}
-
-// What a call with steps answered, as one number. On a refusal a is the index of its step.
-fn pack_built(x: Ending) -> u64
+// What a call with steps answered, as one number. On a refusal a is the index of its step; one that has more than 24 bits is given as the highest number.
+fn pack_built(x: Result<Done, Stop>) -> u64
     requires { PacksEnding x }
     ensures { result ≡ packed_ending x }
 {
     match x {
-        Ending::Done { a, b } => pack(Outcome::Done { a, b }),
-        Ending::Stopped(x) => {
-            let why = x.refusal;
-            let number = pack(Outcome::Refused(why));
-            number + 256 * index_in_24_bits(x.index)
-        }
+        Ok(done) => pack(Ok(done)),
+        Err(stop) => pack(Err(stop.refusal)) + 256 * (stop.index.min(16777215) as u64),
     }
 }
 

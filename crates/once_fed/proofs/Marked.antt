@@ -2,7 +2,7 @@
 -- Assumes nothing.
 use mathlib.Core.Bool.{Bool, true, false, cond, not}
 use mathlib.Core.List.{List, [], ◌∷◌, ◌++◌, append-nil, append_assoc}
-use mathlib.Core.Logic.{⊎_elim, inl, inr}
+use mathlib.Core.Logic.{◌⊎◌, ⊎_elim, inl, inr}
 use mathlib.Core.Path.{◌≡◌, refl, sym, ap, ◌∙◌, subst}
 use Prim.Native.Nat.{ℕ, ◌+◌, ◌*◌, ◌-◌, ◌/◌, ◌%◌, ◌≤◌, ◌<◌}
 use native.Mathlib.Decide.{ℕ_discrete}
@@ -12,7 +12,9 @@ use lib.Dec.{eqb}
 use lib.ListN.{length, get_or, set, replicate, get_or-replicate, length-replicate}
 use lib.Seq.{get_or-set_same, get_or-set_other, sets}
 use borrow.Author.Tests.{eqb-true, eqb-false, eq-eqb, ne_eqb, not-true, not-false}
-use Rattle.once_fed.specs.Marked.{Marked, Twice, Way, Fared, Marks, MarksBoth, AllMarked}
+use Rattle.once_fed.specs.Marked.{Marked, Twice, added, Fared, Marks, MarksBoth, AllMarked}
+use Rattle.once_fed.specs.declared.Way.{Way}
+use Rattle.once_fed.specs.declared.Way.TheVariants as way
 use Rattle.graph.specs.Checks.{feeds, uses, monogamous}
 use Rattle.graph.specs.Graph.{Graph}
 use Rattle.graph.specs.Lists.{occurrences}
@@ -21,6 +23,14 @@ use Rattle.le.specs.Rows.{entry, span}
 use Rattle.le.specs.declared.Row.{Row}
 use Rattle.le.proofs.Rows.{span_append, span_next}
 use Rattle.le.proofs.Tables.{get_d_sets}
+
+-- what a way adds
+abbrev pub IsWay : ℕ → Type 0
+IsWay way = (way ≡ 1) ⊎ (way ≡ 2)
+
+pub is_way : (w : Way) → IsWay (added w)
+is_way way.Used = inl refl
+is_way way.Fed = inr refl
 
 -- a node that occurs twice does so among more entries
 pub twice_among : {nodes : ℕ} {xs ys : List ℕ} (xs' ys' : List ℕ) → ((v : ℕ) → occurrences v xs ≤ occurrences v xs') → ((v : ℕ) → occurrences v ys ≤ occurrences v ys')
@@ -33,7 +43,7 @@ twice_among {nodes} {xs} {ys} xs' ys' f g h = record {
 
 -- ---- the two ways exchanged
 
-pub marked_other : (table : List ℕ) (nodes way : ℕ) → Way way → (xs ys : List ℕ) → Marked table nodes way xs ys → Marked table nodes (3 - way) ys xs
+pub marked_other : (table : List ℕ) (nodes way : ℕ) → IsWay way → (xs ys : List ℕ) → Marked table nodes way xs ys → Marked table nodes (3 - way) ys xs
 marked_other table nodes way w xs ys h = record {
   is = λ id l. ⊎_elim (λ (e : way ≡ 1). rw e (omega (arith, rw e at (h.is id l)))) (λ (e : way ≡ 2). rw e (omega (arith, rw e at (h.is id l)))) w;
   once = λ id l. ((h.once id l).1, (h.once id l).0);
@@ -46,23 +56,23 @@ twice_other {nodes} {xs} {ys} h = record {
   twice = ⊎_elim (λ (l : 1 < occurrences h.id xs). inr l) (λ (l : 1 < occurrences h.id ys). inl l) h.twice;
 }
 
-pub fared_other : (r : Bool) (table : List ℕ) (nodes way : ℕ) → Way way → (xs ys : List ℕ) → Fared r table nodes way xs ys → Fared r table nodes (3 - way) ys xs
+pub fared_other : (r : Bool) (table : List ℕ) (nodes way : ℕ) → IsWay way → (xs ys : List ℕ) → Fared r table nodes way xs ys → Fared r table nodes (3 - way) ys xs
 fared_other true table nodes way w xs ys h = marked_other table nodes way w xs ys h
 fared_other false table nodes way w xs ys h = twice_other h
 
 -- 3 less a way is the other
-other_way : (way : ℕ) → Way way → Way (3 - way)
+other_way : (way : ℕ) → IsWay way → IsWay (3 - way)
 other_way way (inl e) = inr (omega arith)
 other_way way (inr e) = inl (omega arith)
 
 -- ---- an entry more
 
 -- what the table says of a node in one way
-told : (way : ℕ) → Way way → (t a b : ℕ) → t ≡ way * a + (3 - way) * b → a ≤ 1 → b ≤ 1 → t / way % 2 ≡ a
+told : (way : ℕ) → IsWay way → (t a b : ℕ) → t ≡ way * a + (3 - way) * b → a ≤ 1 → b ≤ 1 → t / way % 2 ≡ a
 told way (inl e) t a b h l m = rw e (omega (arith, rw e at h))
 told way (inr e) t a b h l m = rw e (omega (arith, rw e at h))
 
-module _ (table : List ℕ) (nodes id way : ℕ) (known : id < nodes) (long : nodes ≤ length table) (w : Way way) (xs ys : List ℕ) (marked : Marked table nodes way xs ys) where
+module _ (table : List ℕ) (nodes id way : ℕ) (known : id < nodes) (long : nodes ≤ length table) (w : IsWay way) (xs ys : List ℕ) (marked : Marked table nodes way xs ys) where
   here : occurrences id (xs ++ (id ∷ [])) ≡ occurrences id xs + 1
   here = occurrences_append id xs (id ∷ []) ∙ rw (eq-eqb id id refl)
 
@@ -97,7 +107,7 @@ module _ (old : List ℕ) (nodes way : ℕ) (b : List ℕ) (r : Row) (k : ℕ) w
   list_start xs ys h = rw (append-nil xs) h
 
   module _ (n i : ℕ) (less : i < n) (table : List ℕ) (sofar : Marks old table nodes true way (span b r k i)) (id : ℕ) (is_id : id ≡ entry b r (k + i))
-      (known : id < nodes) (long : nodes ≤ length table) (is_way : Way way) (yes : Bool) (is_yes : yes ≡ not (eqb (get_or table id 0 / way % 2) 1)) (new : List ℕ)
+      (known : id < nodes) (long : nodes ≤ length table) (is : IsWay way) (yes : Bool) (is_yes : yes ≡ not (eqb (get_or table id 0 / way % 2) 1)) (new : List ℕ)
       (is_new : new ≡ cond yes (set table id (get_or table id 0 + way)) table) where
     ids : (xs : List ℕ) → xs ++ span b r k (i + 1) ≡ (xs ++ span b r k i) ++ (id ∷ [])
     ids xs = ap (λ (l : List ℕ). xs ++ l) (span_next b r k i ∙ ap (λ (x : ℕ). span b r k i ++ (x ∷ [])) (sym is_id)) ∙ sym (append_assoc xs (span b r k i) (id ∷ []))
@@ -105,7 +115,7 @@ module _ (old : List ℕ) (nodes way : ℕ) (b : List ℕ) (r : Row) (k : ℕ) w
     pub list_turn : yes ≡ true → Marks old new nodes true way (span b r k (i + 1))
     list_turn t xs ys h =
         let free : eqb (get_or table id 0 / way % 2) 1 ≡ false = not-true (eqb (get_or table id 0 / way % 2) 1) (sym is_yes ∙ t) in
-        rw (ids xs, is_new, t) (marked_now table nodes id way known long is_way (xs ++ span b r k i) ys (sofar xs ys h) free)
+        rw (ids xs, is_new, t) (marked_now table nodes id way known long is (xs ++ span b r k i) ys (sofar xs ys h) free)
 
     pub list_stop : yes ≡ false → Marks old new nodes false way (span b r k n)
     list_stop t xs ys h =
@@ -116,11 +126,11 @@ module _ (old : List ℕ) (nodes way : ℕ) (b : List ℕ) (r : Row) (k : ℕ) w
         ap (λ (m : ℕ). xs ++ span b r k m) sum ∙ ap (λ (l : List ℕ). xs ++ l) (span_append b r k (i + 1) (n - (i + 1)))
         ∙ sym (append_assoc xs (span b r k (i + 1)) rest) ∙ ap (λ (l : List ℕ). l ++ rest) (ids xs) in
         rw all (twice_among _ ys (λ v. omega (arith, occurrences_append v ((xs ++ span b r k i) ++ (id ∷ [])) rest)) (λ v. omega arith)
-        (twice_now table nodes id way known long is_way (xs ++ span b r k i) ys (sofar xs ys h) full))
+        (twice_now table nodes id way known long is (xs ++ span b r k i) ys (sofar xs ys h) full))
 
 -- ---- entries in one way, and then some in the other
 
-module _ (old mid new : List ℕ) (nodes way : ℕ) (w : Way way) (s t : List ℕ) where
+module _ (old mid new : List ℕ) (nodes way : ℕ) (w : IsWay way) (s t : List ℕ) where
   pub first_stop : (r : Bool) → Marks old mid nodes r way s → r ≡ false → MarksBoth old new nodes false way s t
   first_stop r h e xs ys f =
       twice_among (xs ++ s) (ys ++ t) (λ v. omega arith) (λ v. omega (arith, occurrences_append v ys t))

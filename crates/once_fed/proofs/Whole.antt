@@ -7,24 +7,27 @@ use Prim.Native.Nat.{ℕ, ◌+◌}
 use native.Mathlib.Omega.{arith}
 use Rattle.once_fed.specs.Marked.{Twice, Fared, MarksBoth, AllMarked}
 use Rattle.form.specs.Form.{body_of, lists_from}
+use Rattle.form.specs.Drawn.{graph_in}
 use Rattle.form.specs.Stored.{graph_of, Stored}
+use Rattle.form.specs.declared.Drawing.{Drawing}
 use Rattle.form.specs.declared.Sizes.{Sizes}
 use Rattle.graph.specs.Checks.{feeds, uses, monogamous}
 use Rattle.graph.specs.Graph.{edge_sources, edge_targets}
 use Rattle.le.specs.Rows.{span}
 use Rattle.le.specs.declared.Row.{Row}
+use Rattle.form.proofs.Drawn.{stored_in}
 use Rattle.form.proofs.Stored.{stored_rows}
 use Rattle.graph.proofs.Monogamous.{occurrences_append}
 use Rattle.once_fed.proofs.Edges.{is_nodes}
 use Rattle.once_fed.proofs.Marked.{twice_among, twice_not, marked_says}
 
 -- the global lists stand in the row
-module _ {b : List ℕ} {z : Sizes} (s : Stored b z) (row : Row) (is : row ≡ body_of z) where
-  pub sources_there : span b row (lists_from z) z.sources ≡ (graph_of b).sources
-  sources_there = rw is (stored_rows s).sources
+module _ (d : Drawing) (row : Row) (is : row ≡ body_of d.sizes) (k : ℕ) (at : k ≡ lists_from d.sizes) where
+  pub sources_there : span d.src.now row k d.sizes.sources ≡ (graph_in d).sources
+  sources_there = rw (is, at) (stored_rows (stored_in d)).sources
 
-  pub targets_there : span b row (lists_from z + z.sources) z.targets ≡ (graph_of b).targets
-  targets_there = rw is (stored_rows s).targets
+  pub targets_there : span d.src.now row (k + d.sizes.sources) d.sizes.targets ≡ (graph_in d).targets
+  targets_there = rw (is, at) (stored_rows (stored_in d)).targets
 
 module _ {b : List ℕ} {z : Sizes} (s : Stored b z) (r : Bool) where
   -- the edges mark a node twice

@@ -2,10 +2,13 @@
 -- Assumes nothing.
 use Rattle.std.specs.Prelude.{ℕ, ◌+◌, ◌-◌, ◌*◌, ◌≤◌, ◌<◌, ◌≡◌, ◌⊎◌, Bool, true, false, List, ◌++◌, get_or}
 use Rattle.graph.specs.Lists.{occurrences}
+use Rattle.once_fed.specs.declared.Way.{Way}
+use Rattle.once_fed.specs.declared.Way.TheVariants as way
 
--- a way to mark a node: 1 as used, 2 as fed; 3 less a way is the other
-abbrev pub Way : ℕ → Type 0
-Way way = (way ≡ 1) ⊎ (way ≡ 2)
+-- what a way to mark a node adds to its byte: 1 as used, 2 as fed; 3 less it is what the other way adds
+abbrev pub added : Way → ℕ
+added way.Used = 1
+added way.Fed = 2
 
 -- the table after the entries that marked in a way and those that marked in the other, in which no node occurs twice in one way
 pub record Marked (table : List ℕ) (nodes way : ℕ) (entries others : List ℕ) : Type 0 where

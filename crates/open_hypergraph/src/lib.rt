@@ -9,10 +9,11 @@ ghost use Rattle.form.specs.Form.{Gives, body_size};
 ghost use Rattle.write.specs.Write.{drawn, Room};
 ghost use Rattle.pieces.specs.Lent.{Lent, lent};
 
-use form::{Outcome, Sizes, Step};
+use form::{Done, Refusal, Sizes};
 use le::Row;
 
 // n nodes of these labels, each a global source and a global target, in order.
+// A list is lent as bytes, and how many entries it has stands beside it: to divide its length once more is no plainer.
 fn put_identity(out: &mut [u8], y: Sizes, labels: &[u8], n: usize)
     requires { Room out.old y × (n ≤ y.nodes) × (n + n ≤ body_size y) × Lent labels.now 4 n }
     ensures { out.new ≡ drawn out.old y (label_row (build.identity (lent labels.now 4 n))) (body (build.identity (lent labels.now 4 n))) }
@@ -24,20 +25,19 @@ fn put_identity(out: &mut [u8], y: Sizes, labels: &[u8], n: usize)
 }
 
 // Nodes of these labels, each a global source and a global target, in order.
-pub fn identity(labels: &[u8], out: &mut [u8]) -> Outcome
+pub fn identity(labels: &[u8], out: &mut [u8]) -> Result<Done, Refusal>
     ensures { Gives (identity_call labels.now (length out.old)) result out.old out.new }
 {
-    let list = lists::label_list(labels);
-    let Step::Number(n) = list else {
-        return Outcome::Refused(list.refusal());
-    };
-    let y = write::sized(n, 0, 0, n, n, 0);
-    let size = write::result_size(y, out.len());
-    let Step::Number(bytes) = size else {
-        return Outcome::Refused(size.refusal());
-    };
+    let n = lists::label_list(labels)?;
+    let y = write::sized(Sizes {
+        nodes: n,
+        sources: n,
+        targets: n,
+        ..form::NOTHING
+    });
+    let bytes = write::result_size(y, out.len())?;
     put_identity(out, y, labels, n);
-    Outcome::Done { a: bytes, b: 0 }
+    Ok(Done { a: bytes, b: 0 })
 }
 
 // s source nodes and t target nodes of these labels, and an operation between them with its ends open.
@@ -66,23 +66,26 @@ fn put_singleton(
 }
 
 // One operation alone, its sources and targets the global ones.
-pub fn singleton(label: u32, sources: &[u8], targets: &[u8], out: &mut [u8]) -> Outcome
+pub fn singleton(
+    label: u32,
+    sources: &[u8],
+    targets: &[u8],
+    out: &mut [u8],
+) -> Result<Done, Refusal>
     ensures { Gives (singleton_call label sources.now targets.now (length out.old)) result out.old out.new }
 {
-    let from = lists::label_list(sources);
-    let Step::Number(s) = from else {
-        return Outcome::Refused(from.refusal());
-    };
-    let to = lists::label_list(targets);
-    let Step::Number(t) = to else {
-        return Outcome::Refused(to.refusal());
-    };
+    let s = lists::label_list(sources)?;
+    let t = lists::label_list(targets)?;
     let n = s + t;
-    let y = write::sized(n, 1, n, s, t, 0);
-    let size = write::result_size(y, out.len());
-    let Step::Number(bytes) = size else {
-        return Outcome::Refused(size.refusal());
-    };
+    let y = write::sized(Sizes {
+        nodes: n,
+        edges: 1,
+        ports: n,
+        sources: s,
+        targets: t,
+        ..form::NOTHING
+    });
+    let bytes = write::result_size(y, out.len())?;
     put_singleton(out, y, label, sources, s, targets, t);
-    Outcome::Done { a: bytes, b: 0 }
+    Ok(Done { a: bytes, b: 0 })
 }

@@ -1,32 +1,36 @@
 -- Packing what the code answered is packing the definition's answer.
 -- Assumes nothing.
 use mathlib.Core.List.{List}
-use mathlib.Core.Path.{◌≡◌, refl, ap, ◌∙◌, subst, sym}
+use mathlib.Core.Path.{◌≡◌, ap, ◌∙◌, sym}
 use Prim.Native.Nat.{ℕ}
-use Rattle.graph.specs.Answer.{Answer, refused, answered, Result}
-use Rattle.form.specs.Form.{outcome, Gives, GivesMap}
-use Rattle.form.specs.declared.Outcome.{Outcome}
+use native.Mathlib.Omega.{arith}
+use Rattle.graph.specs.Answer.{Answer, Result}
+use Rattle.std.specs.Prelude.{Ok, Err}
+use Rattle.std.specs.Prelude.{Result as Outcome}
+use Rattle.form.specs.Form.{told, outcome, Gives, GivesMap}
+use Rattle.form.specs.declared.Done.{Done}
+use Rattle.form.specs.declared.Refusal.{Refusal}
+use Rattle.form.proofs.Answers.{refused_so, answered_so}
 use Rattle.packing.specs.Packed.{packed, Returns, ReturnsMap, Ranged, packed_outcome, Packs}
 
-same_packed : (a : Answer Result) → packed_outcome (outcome a) ≡ packed a
-same_packed (refused r) = refl
-same_packed (answered x) = refl
-
 -- the outcome of a call whose numbers fit
-pub packs : {a : Answer Result} {x : Outcome} → Ranged a → x ≡ outcome a → Packs x
-packs {a} h e = subst Packs (sym e) (go a h)
-  where
-    go : (a : Answer Result) → Ranged a → Packs (outcome a)
-    go (refused r) h = (h.no r refl).1
-    go (answered y) h = h.numbers y refl
+pub packs : {a : Answer Result} (x : Outcome Done Refusal) → Ranged a → told x ≡ outcome a → Packs x
+packs (Err e) h is = tt
+packs {a} (Ok y) h is =
+    let t = answered_so _ a y is in
+    let n = h.numbers t.0 t.1 in
+    (omega (arith, n.0, ap (λ (d : Done). d.a) t.2), omega (arith, n.1, ap (λ (d : Done). d.b) t.2))
 
 -- what is returned of it
-pub returned : (a : Answer Result) {x : Outcome} {r : ℕ} → x ≡ outcome a → r ≡ packed_outcome x → r ≡ packed a
-returned a e p = p ∙ ap packed_outcome e ∙ same_packed a
+pub returned : (a : Answer Result) (x : Outcome Done Refusal) {r : ℕ} → told x ≡ outcome a → r ≡ packed_outcome x → r ≡ packed a
+returned a (Err e) is p = p ∙ sym (ap packed (refused_so _ a _ is))
+returned a (Ok y) is p =
+    let t = answered_so _ a y is in
+    p ∙ ap (λ (d : Done). packed_outcome (Ok d)) t.2 ∙ sym (ap packed t.1)
 
-pub returns_of : {a : Answer Result} {x : Outcome} {old new : List ℕ} {r : ℕ} → Gives a x old new → r ≡ packed_outcome x → Returns a r old new
-returns_of {a} g p = record { number = returned a g.result p; buffer = g.buffer }
+pub returns_of : {a : Answer Result} {x : Outcome Done Refusal} {old new : List ℕ} {r : ℕ} → Gives a x old new → r ≡ packed_outcome x → Returns a r old new
+returns_of {a} {x} g p = record { number = returned a x g.result p; buffer = g.buffer }
 
-pub returns_map_of : {a : Answer Result} {x : Outcome} {old new old_map new_map : List ℕ} {r : ℕ} → GivesMap a x old new old_map new_map → r ≡ packed_outcome x
+pub returns_map_of : {a : Answer Result} {x : Outcome Done Refusal} {old new old_map new_map : List ℕ} {r : ℕ} → GivesMap a x old new old_map new_map → r ≡ packed_outcome x
     → ReturnsMap a r old new old_map new_map
-returns_map_of {a} g p = record { number = returned a g.result p; buffer = g.buffer; map = g.map }
+returns_map_of {a} {x} g p = record { number = returned a x g.result p; buffer = g.buffer; map = g.map }

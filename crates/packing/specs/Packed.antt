@@ -1,9 +1,12 @@
 -- The number that an exported function returns, code, a and b in 8, 24 and 32 bits, and the buffers that it leaves.
 -- Assumes nothing.
 use Rattle.std.specs.Prelude.{ℕ, ◌+◌, ◌*◌, ◌≤◌, ◌<◌, ◌^◌, min, ◌≡◌, List}
-use Rattle.graph.specs.Answer.{Answer, refused, answered, Refusal, Result, laid, laid_map}
-use Rattle.form.specs.declared.Outcome.{Outcome}
-use Rattle.form.specs.declared.Outcome.TheVariants as call
+use Rattle.std.specs.Prelude.{Result as Outcome, Ok, Err}
+use Rattle.graph.specs.Answer as answer
+use Rattle.graph.specs.Answer.{Answer, refused, answered, Result, laid, laid_map}
+use Rattle.form.specs.Form.{meant_by}
+use Rattle.form.specs.declared.Done.{Done}
+use Rattle.form.specs.declared.Refusal.{Refusal}
 
 abbrev pub pack : ℕ → ℕ → ℕ → ℕ
 pack code a b = code + 256 * a + 2 ^ 32 * b
@@ -27,14 +30,14 @@ pub record ReturnsMap (a : Answer Result) (r : ℕ) (old new old_map new_map : L
 
 -- the numbers of an answer fit their bits, and no refusal is 0
 pub record Ranged (a : Answer Result) : Type 0 where
-  pub no : (r : Refusal) → a ≡ refused r → (1 ≤ r.no) × (r.no < 256)
+  pub no : (r : answer.Refusal) → a ≡ refused r → (1 ≤ r.no) × (r.no < 256)
   pub numbers : (x : Result) → a ≡ answered x → (x.a < 2 ^ 24) × (x.b < 2 ^ 32)
 
--- the same of the outcome in code
-abbrev pub packed_outcome : Outcome → ℕ
-packed_outcome (call.Done a b) = pack 0 a b
-packed_outcome (call.Refused x) = pack x.no 0 (min x.place 4294967295)
+-- the same of the outcome in code, whose refusals all fit
+abbrev pub packed_outcome : Outcome Done Refusal → ℕ
+packed_outcome (Ok x) = pack 0 x.a x.b
+packed_outcome (Err x) = pack (meant_by x).no 0 (min (meant_by x).place 4294967295)
 
-abbrev pub Packs : Outcome → Type 0
-Packs (call.Done a b) = (a < 2 ^ 24) × (b < 2 ^ 32)
-Packs (call.Refused x) = x.no < 256
+abbrev pub Packs : Outcome Done Refusal → Type 0
+Packs (Ok x) = (x.a < 2 ^ 24) × (x.b < 2 ^ 32)
+Packs (Err x) = Unit {0}

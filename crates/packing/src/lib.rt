@@ -1,29 +1,20 @@
 // What an exported function returns: code, a and b packed into one number.
 #![tactic(auto)]
 
-ghost use Rattle.std.specs.Prelude.{◌≡◌, min};
+ghost use Rattle.std.specs.Prelude.{◌≡◌};
 ghost use Rattle.packing.specs.Packed.{packed_outcome, Packs};
 
-use form::Outcome;
+use form::{Done, Refusal};
 
-// A place in the 32 bits that are there for it: one that has more is given as the highest number.
-fn place_in_32_bits(place: usize) -> u64
-    ensures { result ≡ min place 4294967295 }
-{
-    if place < 4294967295 {
-        place as u64
-    } else {
-        4294967295
-    }
-}
-
-// What a call answered, as one number: code, a and b in 8, 24 and 32 bits. On a refusal b is its place.
-pub fn pack(x: Outcome) -> u64
+// What a call answered, as one number: code, a and b in 8, 24 and 32 bits. On a refusal b is its place; one that has more bits is given as the highest number.
+pub fn pack(x: Result<Done, Refusal>) -> u64
     requires { Packs x }
     ensures { result ≡ packed_outcome x }
 {
     match x {
-        Outcome::Done { a, b } => 256 * (a as u64) + 4294967296 * (b as u64),
-        Outcome::Refused(x) => x.no as u64 + 4294967296 * place_in_32_bits(x.place),
+        Ok(done) => 256 * (done.a as u64) + 4294967296 * (done.b as u64),
+        Err(refusal) => {
+            refusal.number() as u64 + 4294967296 * (refusal.place().min(4294967295) as u64)
+        }
     }
 }

@@ -2,7 +2,7 @@
 -- Assumes nothing.
 use mathlib.Core.List.{List, [], ◌∷◌, ◌++◌}
 use mathlib.Core.Path.{◌≡◌, refl, sym, ap, ◌∙◌}
-use Prim.Native.Nat.{ℕ, ◌+◌, ◌*◌, ◌/◌, ◌%◌, ◌≤◌, ◌<◌}
+use Prim.Native.Nat.{ℕ, ◌+◌, ◌*◌, ◌≤◌, ◌<◌}
 use native.Mathlib.Numerals.{add-one}
 use native.Mathlib.Omega.{arith}
 use lib.ListN.{length, get_or, take}
@@ -29,40 +29,6 @@ module _ (at : ℕ) where
   row_put old out ns k l is =
       let place : at + 0 * 4 ≡ at = omega arith in
       is ∙ (λ i. sets old (place i) (row 4 (take_all k ns l i)))
-
--- eight bytes are twice four
-one : (v : ℕ) → v % 4294967296 / 256 ≡ v / 256 % 16777216
-one v = omega arith
-
-two : (v : ℕ) → v % 16777216 / 256 ≡ v / 256 % 65536
-two v = omega arith
-
-three : (v : ℕ) → v % 65536 / 256 ≡ v / 256 % 256
-three v = omega arith
-
-last_of_4 : (v : ℕ) → v % 4294967296 % 256 ≡ v % 256
-last_of_4 v = omega arith
-
-last_of_3 : (v : ℕ) → v % 16777216 % 256 ≡ v % 256
-last_of_3 v = omega arith
-
-last_of_2 : (v : ℕ) → v % 65536 % 256 ≡ v % 256
-last_of_2 v = omega arith
-
-last_of_1 : (v : ℕ) → v % 256 % 256 ≡ v % 256
-last_of_1 v = omega arith
-
-high : (v : ℕ) → v / 4294967296 ≡ v / 256 / 256 / 256 / 256
-high v = omega arith
-
-pub bytes_8 : (v : ℕ) → bytes 4 (v % 4294967296) ++ bytes 4 (v / 4294967296) ≡ bytes 8 v
-bytes_8 v =
-    let second : v % 4294967296 / 256 / 256 ≡ v / 256 / 256 % 65536 = ap (λ (n : ℕ). n / 256) (one v) ∙ two (v / 256) in
-    let third : v % 4294967296 / 256 / 256 / 256 ≡ v / 256 / 256 / 256 % 256 = ap (λ (n : ℕ). n / 256) second ∙ three (v / 256 / 256) in
-    let a : v % 4294967296 / 256 % 256 ≡ v / 256 % 256 = ap (λ (n : ℕ). n % 256) (one v) ∙ last_of_3 (v / 256) in
-    let b : v % 4294967296 / 256 / 256 % 256 ≡ v / 256 / 256 % 256 = ap (λ (n : ℕ). n % 256) second ∙ last_of_2 (v / 256 / 256) in
-    let c : v % 4294967296 / 256 / 256 / 256 % 256 ≡ v / 256 / 256 / 256 % 256 = ap (λ (n : ℕ). n % 256) third ∙ last_of_1 (v / 256 / 256 / 256) in
-    λ i. last_of_4 v i ∷ a i ∷ b i ∷ c i ∷ bytes 4 (high v i)
 
 -- two runs, the second where the first ends
 pub put_twice : (old mid new xs ys : List ℕ) (at : ℕ) (n : ℕ) → length xs ≡ n → mid ≡ sets old at xs → new ≡ sets mid (at + n) ys → new ≡ sets old at (xs ++ ys)

@@ -136,6 +136,3 @@ module _ (es : List Edge) (few : length es ≤ 16384) (p : parts_check es ≡ an
   pub counted : added parts label ≡ parts_of (take (i + 1) es)
   counted =
       (λ j. added (is j) (is_label j)) ∙ added_next (take i es) (get_or es i no_edge) (in_order_at es i l p) ∙ ap parts_of (sym (take_edges es i l))
-
-pub all_counted : (es : List Edge) (i : ℕ) → length es ≤ i → parts_of (take i es) ≡ parts_of es
-all_counted es i l = ap parts_of (take_all i es l)

@@ -1,17 +1,14 @@
 -- What the types of this crate stand for.
 -- Assumes nothing.
-use Rattle.std.specs.Prelude.{◌≡◌, cond, List, ◌++◌, map, ◌⊎◌, ℕ, ◌+◌, ◌-◌, ◌*◌, ◌≤◌, eqb, length, get_or, set, replicate}
+use Rattle.std.specs.Prelude.{◌≡◌, cond, List, ◌++◌, map, ◌⊎◌, ℕ, ◌+◌, ◌-◌, ◌*◌, ◌≤◌, eqb, length, get_or, set}
 use Rattle.le.specs.Le.{Below, bytes, row}
 use Rattle.graph.specs.Graph.{Edge, spider}
-use Rattle.graph.specs.Answer.{Answer, refused, answered}
-use Rattle.form.specs.Form.{refusal_of}
-use Rattle.form.specs.declared.Refusal.{Refusal}
-use Rattle.form.specs.declared.Step.TheVariants as step
+use Rattle.graph.specs.Answer.{Answer}
+use Rattle.form.specs.Form.{telling}
 use Rattle.catalogue.specs.Price.{Kind, kinds, kind_of, of_kind, edges_price, buffer_price, Priced}
 use Rattle.parts.specs.declared.KindRow.{KindRow}
 use Rattle.parts.specs.declared.Parts.{Parts}
 use Rattle.parts.specs.declared.Bill.{Bill}
-use Rattle.parts.specs.declared.Pricing.{Pricing}
 
 -- a row of the catalogue in code
 abbrev pub row_of : Kind → KindRow
@@ -56,11 +53,6 @@ pub record Countable (counts : List ℕ) : Type 0 where
 abbrev pub bytes_of : Bill → List ℕ
 bytes_of p = row 4 p.counts ++ (bytes 4 p.buffers ++ bytes 8 p.total)
 
--- a refusal with a list of zeros
-abbrev pub refusing : Refusal → Pricing
-refusing x = record { step = step.Refused x; bill = record { counts = replicate 12 0; buffers = 0; total = 0 } }
-
 -- what pricing answers
-abbrev pub pricing : Answer Priced → Pricing
-pricing (refused r) = refusing (refusal_of r)
-pricing (answered p) = record { step = step.Number 0; bill = bill_of p }
+abbrev pub pricing : Answer Priced → Answer Bill
+pricing = telling bill_of

@@ -8,13 +8,13 @@ ghost use Rattle.le.specs.Le.{bytes, row};
 ghost use Rattle.graph.specs.Answer.{answered};
 ghost use Rattle.graph.specs.Calls.{in_work_room};
 ghost use Rattle.graph.specs.Graph.{Edge};
-ghost use Rattle.form.specs.Form.{tested, Gives};
-ghost use Rattle.form.specs.Stored.{graph_of, Stored};
+ghost use Rattle.form.specs.Form.{told, tested, Gives};
+ghost use Rattle.form.specs.Drawn.{graph_in};
 ghost use Rattle.catalogue.specs.Price as spec;
 ghost use Rattle.catalogue.specs.Price.{part_check, parts_check, kind_of, room_price, price_call};
-ghost use Rattle.parts.specs.Parts.{row_of, parts_of, InCatalogue, Addable, added, billed, Countable, bytes_of, refusing, pricing};
+ghost use Rattle.parts.specs.Parts.{row_of, parts_of, InCatalogue, Addable, added, billed, Countable, bytes_of, pricing};
 
-use form::{Outcome, Reading, Refusal, Sizes, Step};
+use form::{Done, Drawing, Refusal};
 use le::Row;
 
 // The work room of the priced parts list: that of the choice.
@@ -110,46 +110,36 @@ pub fn kind_row(label: usize) -> KindRow
 }
 
 // Whether an edge of this label and so many ports is in order: 14 its label is outside the catalogue, else 15 its ports are not those of the row.
-fn check_part(label: usize, sources: usize, targets: usize) -> Step
-    ensures { (e : Edge) → e.label ≡ label → length e.sources ≡ sources → length e.targets ≡ targets → result ≡ tested (part_check e) }
+fn check_part(label: usize, sources: usize, targets: usize) -> Result<(), Refusal>
+    ensures { (e : Edge) → e.label ≡ label → length e.sources ≡ sources → length e.targets ≡ targets → told result ≡ tested (part_check e) }
 {
     if label == SPIDER {
-        return Step::Number(0);
+        return Ok(());
     }
-    if label < 1 {
-        return Step::Refused(Refusal { no: 14, place: 0 });
-    }
-    if 12 < label {
-        return Step::Refused(Refusal { no: 14, place: 0 });
+    if label < 1 || 12 < label {
+        return Err(Refusal::UnknownKind);
     }
     let row = kind_row(label);
-    if sources != row.sources {
-        return Step::Refused(Refusal { no: 15, place: 0 });
+    if sources != row.sources || targets != row.targets {
+        return Err(Refusal::WrongPorts);
     }
-    if targets != row.targets {
-        return Step::Refused(Refusal { no: 15, place: 0 });
-    }
-    Step::Number(0)
+    Ok(())
 }
 
 // Whether the edges are in order; the first that is not decides.
-fn check_parts(src: &[u8], z: Sizes) -> Step
-    requires { Stored src.now z }
-    ensures { result ≡ tested (parts_check (graph_of src.now).edges) }
+fn check_parts(drawing: Drawing<'_>) -> Result<(), Refusal>
+    ensures { told result ≡ tested (parts_check (graph_in drawing.entry).edges) }
 {
-    let labels = form::label_row(z);
-    let body = form::body_row(z);
+    let labels = drawing.labels();
+    let body = drawing.body();
     let mut k: usize = 0;
-    for i in 0..z.edges {
-        let label = le::number(src, labels, z.nodes + i);
-        let e = form::edge_at(src, body, k);
-        let part = check_part(label, e.sources, e.targets);
-        let Step::Number(_) = part else {
-            return Step::Refused(part.refusal());
-        };
+    for i in 0..drawing.sizes.edges {
+        let label = le::number(drawing.src, labels, drawing.sizes.nodes + i);
+        let e = form::edge_at(drawing.src, body, k);
+        check_part(label, e.sources, e.targets)?;
         k = e.end;
     }
-    Step::Number(0)
+    Ok(())
 }
 
 // How many edges of each kind there are, and what they cost together.
@@ -169,7 +159,7 @@ fn add_part(p: Parts, label: usize) -> Parts
     }
     let row = kind_row(label);
     let mut counts = p.counts;
-    counts[label - 1] = counts[label - 1] + 1;
+    counts[label - 1] += 1;
     Parts {
         counts,
         total: p.total + row.price,
@@ -177,18 +167,17 @@ fn add_part(p: Parts, label: usize) -> Parts
 }
 
 // The parts of a drawing whose edges are in order.
-fn count_parts(src: &[u8], z: Sizes) -> Parts
-    requires stored { Stored src.now z }
-    requires src_value { parts_check (graph_of src.now).edges ≡ answered tt }
-    ensures { result ≡ parts_of (graph_of src.now).edges }
+fn count_parts(drawing: Drawing<'_>) -> Parts
+    requires { parts_check (graph_in drawing).edges ≡ answered tt }
+    ensures { result ≡ parts_of (graph_in drawing.entry).edges }
 {
-    let labels = form::label_row(z);
+    let labels = drawing.labels();
     let mut parts = Parts {
         counts: [0; 12],
         total: 0,
     };
-    for i in 0..z.edges {
-        let label = le::number(src, labels, z.nodes + i);
+    for i in 0..drawing.sizes.edges {
+        let label = le::number(drawing.src, labels, drawing.sizes.nodes + i);
         parts = add_part(parts, label);
     }
     parts
@@ -215,55 +204,17 @@ fn with_buffers(p: Parts, buffers: usize) -> Bill
     }
 }
 
-// What pricing answers: a number and the list, or the refusal, and then a list of zeros beside it. (No enum may hold an array.)
-#[derive(Clone, Copy)]
-pub struct Pricing {
-    pub step: Step,
-    pub bill: Bill,
-}
-
-// A refusal, with a list of zeros.
-fn refused(x: Refusal) -> Pricing
-    ensures { result ≡ refusing x }
-{
-    let bill = Bill {
-        counts: [0; 12],
-        buffers: 0,
-        total: 0,
-    };
-    Pricing {
-        step: Step::Refused(x),
-        bill,
-    }
-}
-
 // The priced parts list of any bytes.
-pub fn price_drawing(src: &[u8], room: &mut [u8]) -> Pricing
-    ensures { result ≡ pricing (in_work_room room_price (length room.old) (spec.price src.now)) }
+pub fn price_drawing(src: &[u8], room: &mut [u8]) -> Result<Bill, Refusal>
+    ensures { told result ≡ pricing (in_work_room room_price (length room.old) (spec.price src.now)) }
 {
-    let lent = lists::work_room(room.len(), ROOM_PRICE);
-    let Step::Number(_) = lent else {
-        return refused(lent.refusal());
-    };
-    let graph = read::read(src);
-    let Reading::Sized(z) = graph else {
-        return refused(graph.refusal());
-    };
-    let pairs = lists::unpaired(z);
-    let Step::Number(_) = pairs else {
-        return refused(pairs.refusal());
-    };
-    let parts = check_parts(src, z);
-    let Step::Number(_) = parts else {
-        return refused(parts.refusal());
-    };
-    let counted = count_parts(src, z);
-    let buffers = cycle::count_chosen(room, src, z);
-    let bill = with_buffers(counted, buffers);
-    Pricing {
-        step: Step::Number(0),
-        bill,
-    }
+    lists::work_room(room.len(), ROOM_PRICE)?;
+    let drawing = read::read(src)?;
+    lists::unpaired(drawing.sizes)?;
+    check_parts(drawing)?;
+    let counted = count_parts(drawing);
+    let buffers = cycle::count_chosen(room, drawing);
+    Ok(with_buffers(counted, buffers))
 }
 
 // Numbers of 4 bytes from `at` on.
@@ -272,8 +223,8 @@ pub fn put_row(out: &mut [u8], at: usize, ns: &[u32])
     ensures { out.new ≡ sets out.old at (row 4 ns.now) }
 {
     let r = Row { at, width: 4 };
-    for k in 0..ns.len() {
-        le::put_number(out, r, k, ns[k] as usize);
+    for (k, &n) in ns.iter().enumerate() {
+        le::put_number(out, r, k, n as usize);
     }
 }
 
@@ -291,28 +242,22 @@ fn put_bill(out: &mut [u8], bill: Bill)
     requires { (60 ≤ length out.old) × Countable bill.counts }
     ensures { out.new ≡ sets out.old 0 (bytes_of bill) }
 {
-    let counts = bill.counts;
-    put_row(out, 0, &counts);
+    put_row(out, 0, &bill.counts);
     le::put4(out, 48, bill.buffers);
     put8(out, 52, bill.total);
 }
 
 // The priced parts list of a stored drawing.
-pub fn price(src: &[u8], out: &mut [u8], room: &mut [u8]) -> Outcome
+pub fn price(src: &[u8], out: &mut [u8], room: &mut [u8]) -> Result<Done, Refusal>
     ensures { Gives (price_call src.now (length out.old) (length room.old)) result out.old out.new }
 {
-    let priced = price_drawing(src, room);
-    let step = priced.step;
-    let Step::Number(_) = step else {
-        return Outcome::Refused(step.refusal());
-    };
+    let bill = price_drawing(src, room)?;
     if out.len() < PRICE_BYTES {
-        return Outcome::Refused(Refusal { no: 10, place: 0 });
+        return Err(Refusal::NoRoom);
     }
-    let bill = priced.bill;
     put_bill(out, bill);
-    Outcome::Done {
+    Ok(Done {
         a: PRICE_BYTES,
         b: 0,
-    }
+    })
 }

@@ -1,6 +1,5 @@
 -- The graph with a port more: its labels, its counts and ids, its sizes, and the step that makes it.
 -- Assumes nothing.
-use mathlib.Core.Bool.{Bool, true, false}
 use mathlib.Core.List.{List, [], ◌∷◌, ◌++◌, append_assoc, append-nil, map}
 use mathlib.Core.Path.{◌≡◌, refl, sym, ap, ◌∙◌, subst}
 use Prim.Native.Nat.{ℕ, zero, suc, ◌+◌, ◌-◌, ◌^◌, ◌≤◌, ◌<◌}
@@ -32,6 +31,8 @@ use Rattle.write.proofs.Results.{put_then, drawn_numbers}
 use Rattle.write.proofs.Calls.{next}
 use Rattle.ports.specs.Ports.{port_step, grown, added, port_at, ported}
 use Rattle.ports.specs.declared.Port.{Port}
+use Rattle.ports.specs.declared.Side.{Side}
+use Rattle.ports.specs.declared.Side.TheVariants.{Source, Target}
 
 changed_set : (f : Edge → Edge) (i : ℕ) (es : List Edge) → i < length es → changed f i es ≡ set es i (f (get_or es i no_edge))
 changed_set f i [] h = absurd (omega arith)
@@ -50,78 +51,78 @@ ported_at front ss ts after p id xs ys e h =
     (rw (take_at xs (ys ++ after) (length xs) refl, drop_at xs (ys ++ after) (length xs) refl))
 
 -- what stands for the edge: its ids parted where the new one goes
-row_grown : (target : Bool) (id : ℕ) (e : Edge) (after : List ℕ)
-    → let p = port_at target (length e.sources) (length e.targets) in
+row_grown : (side : Side) (id : ℕ) (e : Edge) (after : List ℕ)
+    → let p = port_at side (length e.sources) (length e.targets) in
     (xs : List ℕ) × (ys : List ℕ) × (e.sources ++ e.targets ≡ xs ++ ys) × (p.before ≡ length xs)
-    × (edge_row (grown target id e) ++ after ≡ p.sources ∷ p.targets ∷ (xs ++ (id ∷ (ys ++ after))))
-row_grown true id e after =
+    × (edge_row (grown side id e) ++ after ≡ p.sources ∷ p.targets ∷ (xs ++ (id ∷ (ys ++ after))))
+row_grown Target id e after =
     let ss = e.sources in
     let ts = e.targets in
     (ss ++ ts, [], sym (append-nil (ss ++ ts)), sym (length-append ss ts), rw (length-append ts (id ∷ [])) (simp append_assoc))
-row_grown false id e after =
+row_grown Source id e after =
     let ss = e.sources in
     let ts = e.targets in
     (ss, ts, refl, refl, rw (length-append ss (id ∷ [])) (simp append_assoc))
 
-one_more : (target : Bool) (id : ℕ) (e : Edge) → length ((grown target id e).sources ++ (grown target id e).targets) ≡ length (e.sources ++ e.targets) + 1
-one_more true id e = simp length-append (omega arith)
-one_more false id e = simp length-append (omega arith)
+one_more : (side : Side) (id : ℕ) (e : Edge) → length ((grown side id e).sources ++ (grown side id e).targets) ≡ length (e.sources ++ e.targets) + 1
+one_more Target id e = simp length-append (omega arith)
+one_more Source id e = simp length-append (omega arith)
 
-label_kept : (target : Bool) (id : ℕ) (e : Edge) → (grown target id e).label ≡ e.label
-label_kept true id e = refl
-label_kept false id e = refl
+label_kept : (side : Side) (id : ℕ) (e : Edge) → (grown side id e).label ≡ e.label
+label_kept Target id e = refl
+label_kept Source id e = refl
 
-module _ (target : Bool) (i label : ℕ) (g : Graph) (h : i < length g.edges) where
+module _ (side : Side) (i label : ℕ) (g : Graph) (h : i < length g.edges) where
   -- the edge, and the edge that it becomes
   abbrev e : Edge
   e = get_or g.edges i no_edge
 
   abbrev e' : Edge
-  e' = grown target (length g.labels) e
+  e' = grown side (length g.labels) e
 
-  set_edge : changed (grown target (length g.labels)) i g.edges ≡ set g.edges i e'
-  set_edge = changed_set (grown target (length g.labels)) i g.edges h
+  set_edge : changed (grown side (length g.labels)) i g.edges ≡ set g.edges i e'
+  set_edge = changed_set (grown side (length g.labels)) i g.edges h
 
-  joined_new : (part : Edge → List ℕ) → joined part (added target i label g).edges ≡ joined part (take i g.edges) ++ (part e' ++ joined part (drop (suc i) g.edges))
+  joined_new : (part : Edge → List ℕ) → joined part (added side i label g).edges ≡ joined part (take i g.edges) ++ (part e' ++ joined part (drop (suc i) g.edges))
   joined_new part = ap (joined part) (set_edge ∙ set_split g.edges i e' h) ∙ joined_append part (take i g.edges) _
 
-  pub added_labels : label_row (added target i label g) ≡ g.labels ++ (label ∷ map (λ e. e.label) g.edges)
+  pub added_labels : label_row (added side i label g) ≡ g.labels ++ (label ∷ map (λ e. e.label) g.edges)
   added_labels =
       ap (λ (es : List Edge). (g.labels ++ (label ∷ [])) ++ map (λ (e : Edge). e.label) es) set_edge
-      ∙ ap (λ (l : List ℕ). (g.labels ++ (label ∷ [])) ++ l) (map-set_same (λ e. e.label) g.edges i e' no_edge (label_kept target (length g.labels) e))
+      ∙ ap (λ (l : List ℕ). (g.labels ++ (label ∷ [])) ++ l) (map-set_same (λ e. e.label) g.edges i e' no_edge (label_kept side (length g.labels) e))
       ∙ append_assoc g.labels (label ∷ []) _
 
-  pub added_body : body (added target i label g) ≡ ported (body g) (edge_start g.edges i) (port_at target (length e.sources) (length e.targets)) (length g.labels)
+  pub added_body : body (added side i label g) ≡ ported (body g) (edge_start g.edges i) (port_at side (length e.sources) (length e.targets)) (length g.labels)
   added_body =
       let n = length g.labels in
       let lists = g.sources ++ (g.targets ++ flat g.pairs) in
       let front = joined edge_row (take i g.edges) in
       let back = joined edge_row (drop (suc i) g.edges) in
-      let t = row_grown target n e (back ++ lists) in
-      let p = port_at target (length e.sources) (length e.targets) in
-      let new : body (added target i label g) ≡ front ++ (edge_row e' ++ (back ++ lists)) = ap (λ (l : List ℕ). l ++ lists) (joined_new edge_row) ∙ simp append_assoc in
+      let t = row_grown side n e (back ++ lists) in
+      let p = port_at side (length e.sources) (length e.targets) in
+      let new : body (added side i label g) ≡ front ++ (edge_row e' ++ (back ++ lists)) = ap (λ (l : List ℕ). l ++ lists) (joined_new edge_row) ∙ simp append_assoc in
       let old : body g ≡ front ++ (edge_row e ++ (back ++ lists)) = ap (λ (l : List ℕ). l ++ lists) (joined_at edge_row g.edges i no_edge h) ∙ simp append_assoc in
       new ∙ ap (λ (l : List ℕ). front ++ l) t.4 ∙ ported_at front e.sources e.targets (back ++ lists) p n t.0 t.1 t.2 t.3
       ∙ ap (λ (l : List ℕ). ported l (edge_start g.edges i) p n) (sym old)
 
-  added_ports : ports (added target i label g) ≡ ports g + 1
+  added_ports : ports (added side i label g) ≡ ports g + 1
   added_ports =
       let entries : Edge → List ℕ = λ d. d.sources ++ d.targets in
       let new = ap length (joined_new entries) in
       let old = ap length (joined_at entries g.edges i no_edge h) in
-      omega (arith, simp length-append at new, simp length-append at old, simp length-append at (one_more target (length g.labels) e))
+      omega (arith, simp length-append at new, simp length-append at old, simp length-append at (one_more side (length g.labels) e))
 
 -- ---- of a stored graph
 
-module _ {b : List ℕ} {z : Sizes} (s : Stored b z) (target : Bool) (i label : ℕ) (l : i < z.edges) where
+module _ {b : List ℕ} {z : Sizes} (s : Stored b z) (side : Side) (i label : ℕ) (l : i < z.edges) where
   inside : i < length (graph_of b).edges
   inside = subst (λ (y : Sizes). i < y.edges) s.sizes l
 
   pub added_sizes : fitted (counted_as (z.nodes + 1) z.edges z.sources z.targets z.pairs) (z.ports + 1)
-      ≡ sizes_of (fitting (added target i label (graph_of b))) (added target i label (graph_of b))
+      ≡ sizes_of (fitting (added side i label (graph_of b))) (added side i label (graph_of b))
   added_sizes =
       let g = graph_of b in
-      rw (s.sizes, length-append g.labels, added_ports target i label g inside, set_edge target i label g inside, length-set g.edges)
+      rw (s.sizes, length-append g.labels, added_ports side i label g inside, set_edge side i label g inside, length-set g.edges)
 
   -- the edge where it was found: there is room for its ids, and its counts are low
   module _ (k : ℕ) (at : k ≡ edge_start (graph_of b).edges i) (x : EdgeAt) (is : x ≡ edge_in b (body_of z) k) where
@@ -136,19 +137,19 @@ module _ {b : List ℕ} {z : Sizes} (s : Stored b z) (target : Bool) (i label : 
         let n = length_edge_rows g.edges in
         (omega (arith, counts_are, a.next, a.inside), omega (arith, counts_are, a.next, a.inside, s.within.counts.edges, s.within.ports))
 
-    pub added_drawn : (old : List ℕ) (y : Sizes) (p : Port) → p ≡ port_at target x.sources x.targets
+    pub added_drawn : (old : List ℕ) (y : Sizes) (p : Port) → p ≡ port_at side x.sources x.targets
         → puts (drawn old y ((graph_of b).labels ++ (label ∷ map (λ e. e.label) (graph_of b).edges)) []) (body_of y) 0 (ported (body (graph_of b)) k p z.nodes)
-        ≡ drawn old y (label_row (added target i label (graph_of b))) (body (added target i label (graph_of b)))
+        ≡ drawn old y (label_row (added side i label (graph_of b))) (body (added side i label (graph_of b)))
     added_drawn old y p e =
         let g = graph_of b in
         let nodes : z.nodes ≡ length g.labels = ap (λ (y : Sizes). y.nodes) s.sizes in
-        rw (added_labels target i label g inside, added_body target i label g inside, ← at, ← nodes, ← counts_are.0, ← counts_are.1, ← e)
+        rw (added_labels side i label g inside, added_body side i label g inside, ← at, ← nodes, ← counts_are.0, ← counts_are.1, ← e)
         (drawn_numbers old y _ [] (ported (body g) k p z.nodes) 0 refl)
 
 -- what stands for a port more is not above what stood there, but for one
-pub port_low : (target : Bool) (s t : ℕ) → ((port_at target s t).before ≤ s + t) × ((port_at target s t).sources ≤ s + t + 1) × ((port_at target s t).targets ≤ s + t + 1)
-port_low true s t = (omega arith, omega arith, omega arith)
-port_low false s t = (omega arith, omega arith, omega arith)
+pub port_low : (side : Side) (s t : ℕ) → ((port_at side s t).before ≤ s + t) × ((port_at side s t).sources ≤ s + t + 1) × ((port_at side s t).targets ≤ s + t + 1)
+port_low Target s t = (omega arith, omega arith, omega arith)
+port_low Source s t = (omega arith, omega arith, omega arith)
 
 -- ---- the step
 
@@ -156,16 +157,16 @@ module _ {b : List ℕ} {z : Sizes} (s : Stored b z) (edge label : ℕ) where
   id_looked_up : known (length (graph_of b).edges) edge ≡ known z.edges edge
   id_looked_up = ap (λ (y : Sizes). known y.edges edge) (sym s.sizes)
 
-  pub port_stopped : (target : Bool) {r : answer.Refusal} → known z.edges edge ≡ refused r → port_step target edge label (graph_of b) ≡ refused r
+  pub port_stopped : (side : Side) {r : answer.Refusal} → known z.edges edge ≡ refused r → port_step side edge label (graph_of b) ≡ refused r
   unfolding add_edge_source_step add_edge_target_step
-  port_stopped true e = stops _ (id_looked_up ∙ e)
-  port_stopped false e = stops _ (id_looked_up ∙ e)
+  port_stopped Target e = stops _ (id_looked_up ∙ e)
+  port_stopped Source e = stops _ (id_looked_up ∙ e)
 
-  pub port_next : (target : Bool) {i : ℕ} → known z.edges edge ≡ answered i
-      → port_step target edge label (graph_of b) ≡ answered (next (added target i label (graph_of b)) z.nodes)
+  pub port_next : (side : Side) {i : ℕ} → known z.edges edge ≡ answered i
+      → port_step side edge label (graph_of b) ≡ answered (next (added side i label (graph_of b)) z.nodes)
   unfolding add_edge_source_step add_edge_target_step add_edge_source add_edge_target
-  port_next true e = rw (ap (λ (y : Sizes). y.nodes) s.sizes) (goes _ (id_looked_up ∙ e))
-  port_next false e = rw (ap (λ (y : Sizes). y.nodes) s.sizes) (goes _ (id_looked_up ∙ e))
+  port_next Target e = rw (ap (λ (y : Sizes). y.nodes) s.sizes) (goes _ (id_looked_up ∙ e))
+  port_next Source e = rw (ap (λ (y : Sizes). y.nodes) s.sizes) (goes _ (id_looked_up ∙ e))
 
 -- ---- the numbers put one part after the other
 

@@ -20,46 +20,19 @@ use Rattle.graph.proofs.Refuses.{RefusedBy, answer_by, step_by, member_passes}
 use Rattle.graph.proofs.RefusedBy.{fit_by, work_by}
 use Rattle.graph.proofs.Steps.{stops, goes, came, passed, same_answer}
 use Rattle.choice.specs.Arcs.{how_many}
-use Rattle.form.specs.Form.{refusal_of, meant_by, Gives}
-use Rattle.form.specs.declared.Outcome.TheVariants as call
-use Rattle.form.specs.declared.Refusal.{Refusal}
-use Rattle.form.specs.declared.Step.TheVariants as step
+use Rattle.form.specs.Form.{Gives}
+use Rattle.std.specs.Prelude.{Ok}
 use Rattle.form.proofs.Answers.{gives_done}
 use Rattle.packing.specs.Packed.{Ranged}
 use Rattle.catalogue.specs.Price.{Priced, price, room_price}
 use Rattle.catalogue.specs.Range.{drawings_in, most_drawings, sum_of, is_priced, none, dearest_of, index_of, report_of, report_bytes, range_answer, price_range_call}
 use Rattle.catalogue.specs.RefusedBy.{price_range_refusals}
-use Rattle.price.specs.Totals.{forms_of, totals_of, Upto, front_of, amounts_of, ranging}
+use Rattle.price.specs.Totals.{forms_of, totals_of, Upto, front_of, amounts_of}
 use Rattle.price.specs.declared.range.Totals.{Totals}
-use Rattle.price.specs.declared.range.Ranging.{Ranging}
 use Rattle.price.proofs.Adding.{prices_good, totals_upto, meant_back}
 use Rattle.price.proofs.Along.{forms_of_lem}
 use Rattle.catalogue.proofs.Calls.{in_room}
 use Rattle.catalogue.proofs.Slices.{forms_clean, drawings_back, drawings_17}
-
--- ---- what the walk answered
-
-module _ (a : Answer (List (List ℕ))) (r : Ranging) (is : r ≡ ranging a) where
-  pub ranged_refused : (x : Refusal) → r.step ≡ step.Refused x → a ≡ refused (meant_by x)
-  ranged_refused x e = go a is
-    where
-      go : (k : Answer (List (List ℕ))) → r ≡ ranging k → k ≡ refused (meant_by x)
-      go (refused q) p =
-          let same : step.Refused x ≡ step.Refused (refusal_of q) = sym e ∙ ap (λ (y : Ranging). y.step) p in
-          let one : x ≡ refusal_of q = cc in
-          ap (λ (y : Refusal). refused (meant_by y)) (sym one)
-      go (answered y) p =
-          let same : step.Refused x ≡ step.Number 0 = sym e ∙ ap (λ (y : Ranging). y.step) p in
-          let z : ◌≡◌ {A = ℕ} 0 1 = cc in absurd (omega arith)
-
-  pub ranged_answered : (n : ℕ) → r.step ≡ step.Number n → (forms : List (List ℕ)) × (a ≡ answered forms) × (r.totals ≡ totals_of (map price forms))
-  ranged_answered n e = go a is
-    where
-      go : (k : Answer (List (List ℕ))) → r ≡ ranging k → (forms : List (List ℕ)) × (k ≡ answered forms) × (r.totals ≡ totals_of (map price forms))
-      go (refused q) p =
-          let same : step.Number n ≡ step.Refused (refusal_of q) = sym e ∙ ap (λ (y : Ranging). y.step) p in
-          let z : ◌≡◌ {A = ℕ} 0 1 = cc in absurd (omega arith)
-      go (answered y) p = (y, refl, ap (λ (y : Ranging). y.totals) p)
 
 -- a slice in order
 pub sliced : (b : List ℕ) (forms : List (List ℕ)) → drawings_in most_drawings b ≡ answered forms → drawings_in most_drawings b ≡ answered (forms_of b)
@@ -111,12 +84,12 @@ module _ (b : List ℕ) (room lent : ℕ) where
         whole ∙ goes (reported room) e ∙ rw (le-leb (length (report_bytes (report_of (map price forms)))) room m)
 
 pub range_done : (b old new : List ℕ) (lent : ℕ) (forms : List (List ℕ)) → in_work_room room_price lent (drawings_in most_drawings b) ≡ answered forms → 148 ≤ length old
-    → (t : Totals) → t ≡ totals_of (map price forms) → new ≡ sets old 0 (front_of t ++ amounts_of t) → Gives (price_range_call b (length old) lent) (call.Done 148 0) old new
+    → (t : Totals) → t ≡ totals_of (map price forms) → new ≡ sets old 0 (front_of t ++ amounts_of t) → Gives (price_range_call b (length old) lent) (Ok (record { a = 148; b = 0 })) old new
 range_done b old new lent forms e l t is h =
     let answers = map price forms in
     let list = report_bytes (report_of answers) in
     let n = report_long answers in
-    subst (λ (k : ℕ). Gives (price_range_call b (length old) lent) (call.Done k 0) old new) n
+    subst (λ (k : ℕ). Gives (price_range_call b (length old) lent) (Ok (record { a = k; b = 0 })) old new) n
     (gives_done (writing list 0) old new (range_written b (length old) lent forms e l)
     (h ∙ ap (λ (y : Totals). sets old 0 (front_of y ++ amounts_of y)) is ∙ ap (sets old 0) (report_bytes_lem answers) ∙ sets_lay list old (omega (arith, n))))
 

@@ -23,14 +23,6 @@ totals_put old a b c d refusals parts priced buffers seventeen twelve p q r s =
     (put_twice a b d (row 4 refusals) (row 4 parts ++ bytes 4 buffers) 4 68 l₁ q
     (put_twice b c d (row 4 parts) (bytes 4 buffers) 72 48 l₂ r s))
 
--- the amounts behind them
-pub amounts_put : (old a b c d : List ℕ) (sum index whole rest : ℕ) → a ≡ sets old 124 (bytes 8 sum) → b ≡ sets a 132 (bytes 4 index) → c ≡ sets b 136 (bytes 8 whole) → d ≡ sets c 144 (bytes 4 rest)
-    → d ≡ sets old 124 (bytes 8 sum ++ (bytes 4 index ++ (bytes 8 whole ++ bytes 4 rest)))
-amounts_put old a b c d sum index whole rest p q r s =
-    put_twice old a d (bytes 8 sum) (bytes 4 index ++ (bytes 8 whole ++ bytes 4 rest)) 124 8 refl p
-    (put_twice a b d (bytes 4 index) (bytes 8 whole ++ bytes 4 rest) 132 4 refl q
-    (put_twice b c d (bytes 8 whole) (bytes 4 rest) 136 8 refl r s))
-
 -- and both
 pub report_put : (old a b front amounts : List ℕ) → length front ≡ 124 → a ≡ sets old 0 front → b ≡ sets a 124 amounts → b ≡ sets old 0 (front ++ amounts)
 report_put old a b front amounts long p q = put_twice old a b front amounts 0 124 long p q

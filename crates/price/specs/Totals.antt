@@ -1,36 +1,32 @@
 -- What the types of the range stand for in code.
 -- Assumes nothing.
-use Rattle.std.specs.Prelude.{◌≡◌, List, [], ◌∷◌, ◌++◌, map, ℕ, ◌+◌, ◌-◌, ◌*◌, ◌/◌, ◌%◌, ◌≤◌, length, get_or, set, replicate}
+use Rattle.std.specs.Prelude.{Option, None, Some, ◌≡◌, List, [], ◌∷◌, ◌++◌, map, ℕ, ◌+◌, ◌-◌, ◌*◌, ◌/◌, ◌%◌, ◌≤◌, length, get_or, set, replicate}
 use Rattle.le.specs.Le.{Below, bytes, row}
 use Rattle.graph.specs.Lists.{range}
 use Rattle.graph.specs.Answer.{Answer, refused, answered, reply}
 use Rattle.choice.specs.Arcs.{how_many}
-use Rattle.form.specs.Form.{refusal_of}
-use Rattle.form.specs.declared.Refusal.{Refusal}
-use Rattle.form.specs.declared.Step.TheVariants as step
+use Rattle.form.specs.Form.{telling}
 use Rattle.parts.specs.Parts.{Countable, bill_of}
 use Rattle.catalogue.specs.Price.{Priced, price}
 use Rattle.catalogue.specs.Range as report
 use Rattle.catalogue.specs.Range.{most_drawings, drawings_in, sum_of, is_priced, refused_by, dearer, dearest_of, index_of, nth_count, refusal_numbers}
 use Rattle.parts.specs.declared.Bill.{Bill}
 use Rattle.price.specs.declared.range.Dearest.{Dearest}
-use Rattle.price.specs.declared.range.Dearest.TheVariants as dearest
 use Rattle.price.specs.declared.range.Mean.{Mean}
 use Rattle.price.specs.declared.range.Totals.{Totals}
-use Rattle.price.specs.declared.range.Ranging.{Ranging}
 
 -- the drawings of a slice that is in order
 unfoldable pub forms_of : List ℕ → List (List ℕ)
 forms_of b = reply [] (λ forms. forms) (drawings_in most_drawings b)
 
 -- the dearest so far in code, and what it means
-abbrev pub dearest_in : report.Dearest → Dearest
-dearest_in report.none = dearest.Nothing
-dearest_in (report.at i m) = dearest.Drawing i m
+abbrev pub dearest_in : report.Dearest → Option Dearest
+dearest_in report.none = None
+dearest_in (report.at i m) = Some (record { index = i; total = m })
 
-abbrev pub dearest_meant : Dearest → report.Dearest
-dearest_meant dearest.Nothing = report.none
-dearest_meant (dearest.Drawing i m) = report.at i m
+abbrev pub dearest_meant : Option Dearest → report.Dearest
+dearest_meant None = report.none
+dearest_meant (Some d) = report.at d.index d.total
 
 -- the totals of these answers
 abbrev pub totals_of : List (Answer Priced) → Totals
@@ -118,14 +114,9 @@ nothing = record {
   parts = replicate 12 0;
   buffers = 0;
   sum = 0;
-  dearest = dearest.Nothing;
+  dearest = None;
 }
 
--- a refusal with totals of nothing
-abbrev pub not_ranged : Refusal → Ranging
-not_ranged x = record { step = step.Refused x; totals = nothing }
-
 -- what the range answers
-abbrev pub ranging : Answer (List (List ℕ)) → Ranging
-ranging (refused r) = not_ranged (refusal_of r)
-ranging (answered forms) = record { step = step.Number 0; totals = totals_of (map price forms) }
+abbrev pub ranging : Answer (List (List ℕ)) → Answer Totals
+ranging = telling (λ forms. totals_of (map price forms))

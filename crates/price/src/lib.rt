@@ -16,6 +16,5 @@ pub const ROOM_PRICE_RANGE: usize = parts::ROOM_PRICE;
 pub fn ohg_price(src: &[u8], out: &mut [u8], room: &mut [u8]) -> u64
     ensures { Returns (price_call src.now (length out.old) (length room.old)) result out.old out.new }
 {
-    let x = parts::price(src, out, room);
-    pack(x)
+    pack(parts::price(src, out, room))
 }

@@ -4,14 +4,14 @@ ghost use Rattle.std.proofs.lemmas.List.Edits.{sets};
 ghost use Rattle.le.specs.Le.{Below};
 ghost use Rattle.graph.specs.Answer.{answered};
 ghost use Rattle.graph.specs.Calls.{in_work_room};
-ghost use Rattle.form.specs.Form.{numbered, tested, Gives};
+ghost use Rattle.form.specs.Form.{told, tested, Gives};
 ghost use Rattle.packing.specs.Packed.{Returns};
 ghost use Rattle.catalogue.specs.Price as spec;
 ghost use Rattle.catalogue.specs.Price.{room_price};
 ghost use Rattle.catalogue.specs.Range.{first_length, drawings_in, most_drawings, dearer, index_of, price_range_call};
-ghost use Rattle.price.specs.Totals.{forms_of, dearest_in, dearest_meant, totals_of, sums, refused_once, priced_once, added, Listed, Upto, mean_of, front_of, amounts_of, nothing, not_ranged, ranging};
+ghost use Rattle.price.specs.Totals.{forms_of, dearest_in, dearest_meant, totals_of, sums, refused_once, priced_once, added, Listed, Upto, mean_of, front_of, amounts_of, nothing, ranging};
 
-use form::{Outcome, Refusal, Step};
+use form::{Done, Refusal};
 use packing::pack;
 use parts::{Bill, price_drawing, put_row, put8};
 
@@ -22,13 +22,13 @@ pub const MOST_DRAWINGS: usize = 1000;
 pub const RANGE_BYTES: usize = 148;
 
 // The index where there is no dearest drawing.
-const NO_DRAWING: u32 = 4294967295;
+pub const NO_DRAWING: u32 = 4294967295;
 
-// The dearest drawing so far: none, or its index and what it costs.
+// The dearest of some drawings: its index and what it costs.
 #[derive(Clone, Copy)]
-pub enum Dearest {
-    Nothing,
-    Drawing { index: u32, total: u64 },
+pub struct Dearest {
+    pub index: u32,
+    pub total: u64,
 }
 
 // The totals of the drawings so far.
@@ -40,7 +40,7 @@ pub struct Totals {
     pub parts: [u32; 12],
     pub buffers: u32,
     pub sum: u64,
-    pub dearest: Dearest,
+    pub dearest: Option<Dearest>,
 }
 
 // A mean: whole part and remainder.
@@ -50,64 +50,47 @@ pub struct Mean {
     pub rest: u32,
 }
 
-// What the range answers: a number and the totals, or the refusal, and then totals of nothing beside it.
-#[derive(Clone, Copy)]
-pub struct Ranging {
-    pub step: Step,
-    pub totals: Totals,
-}
-
 // How long the drawing is whose length stands at `at`: 17 where the length is cut short or runs past the input.
-fn drawing_length(src: &[u8], at: usize) -> Step
+fn drawing_length(src: &[u8], at: usize) -> Result<usize, Refusal>
     requires { at ≤ length src.now }
-    ensures { result ≡ numbered (first_length (drop at src.now)) }
+    ensures { told result ≡ first_length (drop at src.now) }
 {
     let left = src.len() - at;
     if left < 4 {
-        return Step::Refused(Refusal { no: 17, place: 0 });
+        return Err(Refusal::BrokenRange);
     }
     let n = le::get4(src, at) as usize;
     if left - 4 < n {
-        return Step::Refused(Refusal { no: 17, place: 0 });
+        return Err(Refusal::BrokenRange);
     }
-    Step::Number(n)
+    Ok(n)
 }
 
 // Whether the slice is drawings, each with its length before it, and no more than there may be.
-fn check_drawings(src: &[u8]) -> Step
-    ensures { result ≡ tested (drawings_in most_drawings src.now) }
+fn check_drawings(src: &[u8]) -> Result<(), Refusal>
+    ensures { told result ≡ tested (drawings_in most_drawings src.now) }
 {
     let mut next: usize = 0;
     let mut count: usize = 0;
     while next < src.len() {
         if count == MOST_DRAWINGS {
-            return Step::Refused(Refusal { no: 17, place: 0 });
+            return Err(Refusal::BrokenRange);
         }
-        let step = drawing_length(src, next);
-        let Step::Number(n) = step else {
-            return Step::Refused(step.refusal());
-        };
+        let n = drawing_length(src, next)?;
         next = next + 4 + n;
-        count = count + 1;
+        count += 1;
     }
-    Step::Number(0)
+    Ok(())
 }
 
 // The dearest after one drawing more: the first on a tie.
-fn dearer_of(d: Dearest, index: u32, total: u64) -> Dearest
+fn dearer_of(d: Option<Dearest>, index: u32, total: u64) -> Option<Dearest>
     ensures { result ≡ dearest_in (dearer (dearest_meant d) index total) }
 {
-    let Dearest::Drawing {
-        index: _,
-        total: most,
-    } = d
-    else {
-        return Dearest::Drawing { index, total };
-    };
-    if most < total {
-        return Dearest::Drawing { index, total };
+    match d {
+        Some(most) if total <= most.total => d,
+        _ => Some(Dearest { index, total }),
     }
-    d
 }
 
 // Two rows of counts, kind by kind.
@@ -116,8 +99,8 @@ fn add_counts(parts: [u32; 12], counts: [u32; 12]) -> [u32; 12]
     ensures { result ≡ sums parts counts }
 {
     let mut both = parts;
-    for k in 0..12 {
-        both[k] = both[k] + counts[k];
+    for (k, &n) in counts.iter().enumerate() {
+        both[k] += n;
     }
     both
 }
@@ -129,17 +112,11 @@ fn add_refusal(t: Totals, no: u32) -> Totals
 {
     let k = no as usize - 1;
     let mut refusals = t.refusals;
-    refusals[k] = refusals[k] + 1;
-    let parts = t.parts;
-    let dearest = t.dearest;
+    refusals[k] += 1;
     Totals {
         drawings: t.drawings + 1,
-        priced: t.priced,
         refusals,
-        parts,
-        buffers: t.buffers,
-        sum: t.sum,
-        dearest,
+        ..t
     }
 }
 
@@ -148,20 +125,15 @@ fn add_bill(t: Totals, bill: Bill) -> Totals
     requires { Upto 999 t × Listed bill }
     ensures { result ≡ priced_once t bill }
 {
-    let before = t.parts;
-    let counts = bill.counts;
-    let parts = add_counts(before, counts);
-    let most = t.dearest;
-    let dearest = dearer_of(most, t.drawings, bill.total);
-    let refusals = t.refusals;
+    let parts = add_counts(t.parts, bill.counts);
     Totals {
         drawings: t.drawings + 1,
         priced: t.priced + 1,
-        refusals,
         parts,
         buffers: t.buffers + bill.buffers,
         sum: t.sum + bill.total,
-        dearest,
+        dearest: dearer_of(t.dearest, t.drawings, bill.total),
+        ..t
     }
 }
 
@@ -170,14 +142,10 @@ fn add_drawing(t: Totals, src: &[u8], room: &mut [u8]) -> Totals
     requires { Upto 999 t × (room_price ≤ length room.old) }
     ensures { result ≡ added t (spec.price src.now) }
 {
-    let priced = price_drawing(src, room);
-    let step = priced.step;
-    let Step::Number(_) = step else {
-        let x = step.refusal();
-        return add_refusal(t, x.no);
-    };
-    let bill = priced.bill;
-    add_bill(t, bill)
+    match price_drawing(src, room) {
+        Ok(bill) => add_bill(t, bill),
+        Err(refusal) => add_refusal(t, refusal.number()),
+    }
 }
 
 // Totals of no drawing.
@@ -191,7 +159,7 @@ fn none() -> Totals
         parts: [0; 12],
         buffers: 0,
         sum: 0,
-        dearest: Dearest::Nothing,
+        dearest: None,
     }
 }
 
@@ -212,34 +180,13 @@ fn price_drawings(src: &[u8], room: &mut [u8]) -> Totals
     t
 }
 
-// A refusal, with totals of nothing.
-fn not_ranged(x: Refusal) -> Ranging
-    ensures { result ≡ not_ranged x }
-{
-    let totals = none();
-    Ranging {
-        step: Step::Refused(x),
-        totals,
-    }
-}
-
 // The totals of any bytes.
-pub fn price_slice(src: &[u8], room: &mut [u8]) -> Ranging
-    ensures { result ≡ ranging (in_work_room room_price (length room.old) (drawings_in most_drawings src.now)) }
+pub fn price_slice(src: &[u8], room: &mut [u8]) -> Result<Totals, Refusal>
+    ensures { told result ≡ ranging (in_work_room room_price (length room.old) (drawings_in most_drawings src.now)) }
 {
-    let lent = lists::work_room(room.len(), crate::ROOM_PRICE_RANGE);
-    let Step::Number(_) = lent else {
-        return not_ranged(lent.refusal());
-    };
-    let slice = check_drawings(src);
-    let Step::Number(_) = slice else {
-        return not_ranged(slice.refusal());
-    };
-    let totals = price_drawings(src, room);
-    Ranging {
-        step: Step::Number(0),
-        totals,
-    }
+    lists::work_room(room.len(), crate::ROOM_PRICE_RANGE)?;
+    check_drawings(src)?;
+    Ok(price_drawings(src, room))
 }
 
 // The mean over so many; of none it is nothing.
@@ -258,13 +205,10 @@ pub fn mean_of(sum: u64, priced: u32) -> Mean
 }
 
 // The index of the dearest drawing, or the number that says that there is none.
-pub fn index_of(d: Dearest) -> u32
+pub fn index_of(d: Option<Dearest>) -> u32
     ensures { result ≡ index_of (dearest_meant d) }
 {
-    match d {
-        Dearest::Nothing => NO_DRAWING,
-        Dearest::Drawing { index, total: _ } => index,
-    }
+    d.map_or(NO_DRAWING, |most| most.index)
 }
 
 // The counts at the front of the report.
@@ -273,10 +217,8 @@ fn put_totals(out: &mut [u8], t: Totals)
     ensures { out.new ≡ sets out.old 0 (front_of t) }
 {
     le::put4(out, 0, t.priced);
-    let refusals = t.refusals;
-    put_row(out, 4, &refusals);
-    let parts = t.parts;
-    put_row(out, 72, &parts);
+    put_row(out, 4, &t.refusals);
+    put_row(out, 72, &t.parts);
     le::put4(out, 120, t.buffers);
 }
 
@@ -286,8 +228,7 @@ fn put_amounts(out: &mut [u8], t: Totals)
     ensures { out.new ≡ sets out.old 124 (amounts_of t) }
 {
     put8(out, 124, t.sum);
-    let d = t.dearest;
-    le::put4(out, 132, index_of(d));
+    le::put4(out, 132, index_of(t.dearest));
     let mean = mean_of(t.sum, t.priced);
     put8(out, 136, mean.whole);
     le::put4(out, 144, mean.rest);
@@ -303,29 +244,23 @@ fn put_report(out: &mut [u8], t: Totals)
 }
 
 // The report on a slice of drawings.
-pub fn price_range(src: &[u8], out: &mut [u8], room: &mut [u8]) -> Outcome
+pub fn price_range(src: &[u8], out: &mut [u8], room: &mut [u8]) -> Result<Done, Refusal>
     ensures { Gives (price_range_call src.now (length out.old) (length room.old)) result out.old out.new }
 {
-    let ranged = price_slice(src, room);
-    let step = ranged.step;
-    let Step::Number(_) = step else {
-        return Outcome::Refused(step.refusal());
-    };
+    let totals = price_slice(src, room)?;
     if out.len() < RANGE_BYTES {
-        return Outcome::Refused(Refusal { no: 10, place: 0 });
+        return Err(Refusal::NoRoom);
     }
-    let totals = ranged.totals;
     put_report(out, totals);
-    Outcome::Done {
+    Ok(Done {
         a: RANGE_BYTES,
         b: 0,
-    }
+    })
 }
 
 // How many drawings of a slice were priced and how many refused by each number, how many parts and loop buffers they have, the exact sum, the dearest and the mean.
 pub fn ohg_price_range(src: &[u8], out: &mut [u8], room: &mut [u8]) -> u64
     ensures { Returns (price_range_call src.now (length out.old) (length room.old)) result out.old out.new }
 {
-    let x = price_range(src, out, room);
-    pack(x)
+    pack(price_range(src, out, room))
 }

@@ -5,7 +5,6 @@ use mathlib.Core.List.{List, [], ◌∷◌, ◌++◌}
 use mathlib.Core.Logic.{◌≢◌, ◌⊎◌, inl, inr, ⊎_elim}
 use Prim.Native.Nat.{ℕ, zero, suc, ◌+◌, ◌-◌, ◌*◌, ◌/◌, ◌%◌, ◌≤◌, ◌<◌}
 use native.Mathlib.Decide.{ℕ_discrete}
-use native.Mathlib.Nat.{le_refl}
 use native.Mathlib.Omega.{arith}
 use lib.ListN.{length, get_or, set, length-set, length-append, get_or-append}
 use lib.Seq.{get_or-set_same, get_or-set_other, ext_get_or, get_or-append_seam}
@@ -161,11 +160,7 @@ module _ (W : List ℕ) (base n k : ℕ) (fits : base + 2 * n ≤ length W) wher
         is : keys_in (placed X base gap (key_at X base c)) base n ≡ set (keys_in X base n) gap (get_or (keys_in X base n) c 0)
         is = placed_keys X base gap (key_at X base c) inside n sinking_gap ∙ ap (set (keys_in X base n) gap) (sym at)
 
-    -- no child
-    pub sinking_bottom : n ≤ 2 * gap + 1 → Sinks W X base n k gap
-    sinking_bottom l = record { sinking = s.sinking; below = λ j p q e. absurd (omega arith); frame = s.frame }
-
-    -- or none above k
+    -- no child is above k
     pub sinking_stop : (c : ℕ) → Larger (keys_in X base n) n gap c → key_at X base c ≤ k → Sinks W X base n k gap
     sinking_stop c l a = record {
       sinking = s.sinking;

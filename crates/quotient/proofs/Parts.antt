@@ -16,8 +16,11 @@ use Rattle.graph.specs.Merge.{looked, looked_edge, merged}
 use Rattle.graph.specs.Versions.{fitting}
 use Rattle.graph.proofs.Merged.{looked_labels, merged_sizes}
 use Rattle.form.specs.Form.{sizes_of, labels_of, body_of, body_size, lists_from}
+use Rattle.form.specs.Drawn.{graph_in}
 use Rattle.form.specs.Stored.{graph_of, Stored}
+use Rattle.form.specs.declared.Drawing.{Drawing}
 use Rattle.form.specs.declared.Sizes.{Sizes}
+use Rattle.form.proofs.Drawn.{stored_in}
 use Rattle.form.proofs.Stored.{stored_rows, stored_known}
 use Rattle.write.specs.Write.{counted_as, fitted, Put}
 use Rattle.write.proofs.Results.{put_then}
@@ -75,20 +78,23 @@ module _ {b : List ℕ} {z : Sizes} (s : Stored b z) where
   pub lists_below : (k : ℕ) → k ≡ lists_from z → Below z.nodes (span b (body_of z) k (z.sources + z.targets))
   lists_below k e = subst (Below z.nodes) (sym (lists_at_lem k e)) lists_known
 
-module _ {b : List ℕ} {z : Sizes} {room : List ℕ} (m : Mapped b z room) where
+module _ {d : Drawing} {room : List ℕ} (m : Mapped d room) where
+  abbrev z : Sizes
+  z = d.sizes
+
   abbrev ids : List ℕ
-  ids = (merged (graph_of b)).ids
+  ids = (merged (graph_in d)).ids
 
   lists_renamed : (k : ℕ) → k ≡ lists_from z
-      → looked (words room) (span b (body_of z) k (z.sources + z.targets)) ≡ looked ids (graph_of b).sources ++ (looked ids (graph_of b).targets ++ [])
+      → looked (words room) (span d.src.now (body_of z) k (z.sources + z.targets)) ≡ looked ids (graph_in d).sources ++ (looked ids (graph_in d).targets ++ [])
   lists_renamed k e =
-      ap (looked (words room)) (lists_at_lem m.stored k e) ∙ same_looked z.nodes ids (words room) m.map ((graph_of b).sources ++ (graph_of b).targets) (lists_known m.stored)
-      ∙ map-append (λ (id : ℕ). get_or ids id 0) (graph_of b).sources (graph_of b).targets
-      ∙ ap (λ (l : List ℕ). looked ids (graph_of b).sources ++ l) (sym (append-nil (looked ids (graph_of b).targets)))
+      ap (looked (words room)) (lists_at_lem (stored_in d) k e) ∙ same_looked z.nodes ids (words room) m.map ((graph_in d).sources ++ (graph_in d).targets) (lists_known (stored_in d))
+      ∙ map-append (λ (id : ℕ). get_or ids id 0) (graph_in d).sources (graph_in d).targets
+      ∙ ap (λ (l : List ℕ). looked ids (graph_in d).sources ++ l) (sym (append-nil (looked ids (graph_in d).targets)))
 
   -- all counts and ids
-  pub body_put : {out mid out' : List ℕ} {q : Row} {lists end : ℕ} → lists ≡ lists_from z → Put out q 0 (joined edge_row (map (looked_edge (words room)) (graph_of b).edges)) mid lists
-      → Put mid q lists (looked (words room) (span b (body_of z) lists (z.sources + z.targets))) out' end → Put out q 0 (body (merged (graph_of b)).graph) out' end
+  pub body_put : {out mid out' : List ℕ} {q : Row} {lists end : ℕ} → lists ≡ lists_from z → Put out q 0 (joined edge_row (map (looked_edge (words room)) (graph_in d).edges)) mid lists
+      → Put mid q lists (looked (words room) (span d.src.now (body_of z) lists (z.sources + z.targets))) out' end → Put out q 0 (body (merged (graph_in d)).graph) out' end
   body_put {out} {mid} {out'} {q} {lists} {end} e p r =
-      put_then (coe 0 1 (i. Put out q 0 (joined edge_row (same_edges z.nodes ids (words room) m.map (graph_of b).edges (stored_known m.stored).edges i)) mid lists) p)
+      put_then (coe 0 1 (i. Put out q 0 (joined edge_row (same_edges z.nodes ids (words room) m.map (graph_in d).edges (stored_known (stored_in d)).edges i)) mid lists) p)
       (coe 0 1 (i. Put mid q lists (lists_renamed lists e i) out' end) r)

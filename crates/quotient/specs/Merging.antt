@@ -3,12 +3,11 @@
 use Rattle.std.specs.Prelude.{ℕ, ◌*◌, ◌≤◌, List, length}
 use Rattle.le.specs.Le.{words}
 use Rattle.graph.specs.Merge.{merged}
-use Rattle.form.specs.Stored.{graph_of, Stored}
-use Rattle.form.specs.declared.Sizes.{Sizes}
+use Rattle.form.specs.Drawn.{graph_in}
+use Rattle.form.specs.declared.Drawing.{Drawing}
 use Rattle.classes.specs.Forest.{Tabled}
 
--- a stored graph, and the map of merging it in the first words of the room
-pub record Mapped (b : List ℕ) (z : Sizes) (room : List ℕ) : Type 0 where
-  pub stored : Stored b z
-  pub held : 4 * z.nodes ≤ length room
-  pub map : Tabled z.nodes (merged (graph_of b)).ids (words room)
+-- the map of merging a stored graph stands in the first words of the room
+pub record Mapped (d : Drawing) (room : List ℕ) : Type 0 where
+  pub held : 4 * d.sizes.nodes ≤ length room
+  pub map : Tabled d.sizes.nodes (merged (graph_in d)).ids (words room)

@@ -10,7 +10,7 @@ ghost use Rattle.range.specs.Glance.{head_line, refusal_line, sum_line, dearest_
 ghost use Rattle.range.specs.Lines.{front_text, back_text};
 
 use amounts::{put_amount, put_buffers, put_kinds};
-use price::range::{Mean, Totals};
+use price::range::{Mean, NO_DRAWING, Totals};
 use text::{put_field, put_text};
 
 // How many drawings there are, and how many were priced.
@@ -45,9 +45,9 @@ fn put_refusals(out: &mut [u8], at: usize, refusals: &[u32; 17]) -> usize
     ensures printed { Printed out.old at (joined (refusal_line refusals.now) refusal_numbers) out.new result }
     ensures upper_bound { result ≤ at + 17 * 54 }
 {
-    let mut next: usize = at;
-    for k in 0..17 {
-        next = put_refused(out, next, refusals, k + 1);
+    let mut next = at;
+    for no in 1..=17 {
+        next = put_refused(out, next, refusals, no);
     }
     next
 }
@@ -63,13 +63,13 @@ fn put_sum(out: &mut [u8], at: usize, sum: u64) -> usize
     put_text(out, costs, b"\n")
 }
 
-// The dearest drawing, where there is one.
+// The dearest drawing, where there is one. The index is the report's, with its number for none: an `Option` would need a bound on the index, which nothing else asks for.
 fn put_dearest(out: &mut [u8], at: usize, index: u32) -> usize
     requires { at + 29 ≤ length out.old }
     ensures printed { Printed out.old at (dearest_line index) out.new result }
     ensures upper_bound { result ≤ at + 29 }
 {
-    if index == 4294967295 {
+    if index == NO_DRAWING {
         return at;
     }
     let named = put_field(out, at, b"dearest ", index as usize);
@@ -95,10 +95,8 @@ fn put_front(out: &mut [u8], t: Totals) -> usize
     ensures upper_bound { result ≤ 1729 }
 {
     let head = put_head(out, t.drawings, t.priced);
-    let refusals = t.refusals;
-    let refused = put_refusals(out, head, &refusals);
-    let parts = t.parts;
-    let kinds = put_kinds(out, refused, &parts);
+    let refused = put_refusals(out, head, &t.refusals);
+    let kinds = put_kinds(out, refused, &t.parts);
     put_buffers(out, kinds, t.buffers)
 }
 
@@ -109,11 +107,8 @@ fn put_back(out: &mut [u8], at: usize, t: Totals) -> usize
     ensures upper_bound { result ≤ at + 117 }
 {
     let summed = put_sum(out, at, t.sum);
-    let d = t.dearest;
-    let index = price::range::index_of(d);
-    let named = put_dearest(out, summed, index);
-    let mean = price::range::mean_of(t.sum, t.priced);
-    put_mean(out, named, mean)
+    let named = put_dearest(out, summed, price::range::index_of(t.dearest));
+    put_mean(out, named, price::range::mean_of(t.sum, t.priced))
 }
 
 // The whole report.

@@ -11,7 +11,6 @@ ghost use Rattle.catalogue.specs.Price.{room_price};
 ghost use Rattle.text.specs.Text.{Printed};
 ghost use Rattle.range.specs.Glance.{range_text, range_room};
 
-use form::Step;
 use lines::put_report;
 use text::put_refusal;
 
@@ -21,13 +20,10 @@ fn glance(src: &[u8], room: &mut [u8], out: &mut [u8]) -> usize
     ensures printed { Printed out.old 0 (range_text src.now) out.new result }
     ensures prefix_len { IsPrefixLen result out.new }
 {
-    let ranged = price::range::price_slice(src, room);
-    let step = ranged.step;
-    let Step::Number(_) = step else {
-        return put_refusal(out, step.refusal());
-    };
-    let totals = ranged.totals;
-    put_report(out, totals)
+    match price::range::price_slice(src, room) {
+        Ok(totals) => put_report(out, totals),
+        Err(refusal) => put_refusal(out, refusal),
+    }
 }
 
 // Four mebibytes of zeros. The `ensures` gives only the length, which lending the array as a slice needs.

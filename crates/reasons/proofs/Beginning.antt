@@ -25,13 +25,14 @@ use Rattle.removal.specs.Room.{Source, halves_in, list_in, Roomy, Lists, Went}
 use Rattle.removal.proofs.Rooms.{roomy_all}
 use Rattle.removal.proofs.Tables.{steady_trans}
 use Rattle.cycle.proofs.Begin.{Drawn, bounded, all_roomy}
+use Rattle.choice.specs.Reasons.{not_led_to, leads_to_none}
 use Rattle.reasons.specs.Told.{freed_all, waited_from, Settled, Told, ends_in, Tabled, Begun, Explaining}
 use Rattle.reasons.proofs.Ends.{raised_by, ends_low, ends_are}
 use Rattle.reasons.proofs.Parts.{explained}
 use Rattle.reasons.proofs.Rooms.{after_roomy, after_lists, after_settled, settled_roomy, tabled_steady, settled_is}
 use Rattle.reasons.proofs.Saying.{freed_outside}
 
-module _ (s : Source) (g : Graph) (nodes n : ℕ) (d : Drawn g nodes n) where
+module _ {g : Graph} {nodes n : ℕ} (d : Drawn g nodes n) where
   abbrev lists : ℕ → List ℕ
   lists = neighbours (arcs g)
 
@@ -40,7 +41,7 @@ module _ (s : Source) (g : Graph) (nodes n : ℕ) (d : Drawn g nodes n) where
 
   -- ---- the first part
 
-  module _ (W R X Y : List ℕ) (long : picked_at ≤ length W) (built : Built s g W) (a : ℕ) (raises : Went W R n 0 (raised_by W n n)) (seeds : Went R X n a (seed_to n (halves_in R n 0))) where
+  module _ {s : Source} {W R X : List ℕ} (long : picked_at ≤ length W) (built : Built s g W) {a : ℕ} (raises : Went W R n 0 (raised_by W n n)) (seeds : Went R X n a (seed_to n (halves_in R n 0))) where
     tabled : Tabled s g W nodes n
     tabled = record {
       lists = subst (λ (k : ℕ). Lists s W k n) (sym d.nodes_is) (subst (Lists s W (length g.labels)) (sym d.n_is) built.inside);
@@ -71,12 +72,12 @@ module _ (s : Source) (g : Graph) (nodes n : ℕ) (d : Drawn g nodes n) where
     roomy = all_roomy (arcs g) n (seed_to n (raised_by W n n)) (ends_to lists n) ready.state
 
     pub seeded_roomy : Roomy n (halves_in X n a)
-    seeded_roomy = after_roomy s W X Y nodes n less d.few long tabled.lists (seed_to n (raised_by W n n)) roomy a went
+    seeded_roomy = after_roomy s W X X nodes n less d.few long tabled.lists (seed_to n (raised_by W n n)) roomy a went
 
     pub seeded_lists : Lists s X nodes n
-    seeded_lists = after_lists s W X Y nodes n less d.few long tabled.lists (seed_to n (raised_by W n n)) roomy a went
+    seeded_lists = after_lists s W X X nodes n less d.few long tabled.lists (seed_to n (raised_by W n n)) roomy a went
 
-    module _ (mid : ℕ) (t : Settled s X Y nodes n 0 mid (halves_in X n a)) where
+    module _ {Y : List ℕ} {mid : ℕ} (t : Settled s X Y nodes n 0 mid (halves_in X n a)) where
       u : Settled s W Y nodes n 0 mid (seed_to n (raised_by W n n))
       u = after_settled s W X Y nodes n less d.few long tabled.lists (seed_to n (raised_by W n n)) roomy a went 0 mid t
 
@@ -94,17 +95,17 @@ module _ (s : Source) (g : Graph) (nodes n : ℕ) (d : Drawn g nodes n) where
 
   -- ---- both parts
 
-  module _ (X M Y : List ℕ) (mid : ℕ) (b : Begun s g X nodes n mid) (long : picked_at ≤ length X) (a : ℕ) (ends : Went X M n a (lower_all (ends_in X n) (halves_in X n mid))) where
+  module _ {s : Source} {X M : List ℕ} {mid : ℕ} (b : Begun s g X nodes n mid) (long : picked_at ≤ length X) {a : ℕ} (ends : Went X M n a (lower_all (ends_in X n) (halves_in X n mid))) where
     ends_roomy : Roomy n (lower_all (ends_in X n) (halves_in X n mid))
     ends_roomy = roomy_all n (ends_in X n) (halves_in X n mid) (ends_low X n n (omega arith)) b.roomy
 
     pub lowered_roomy : Roomy n (halves_in M n a)
-    lowered_roomy = after_roomy s X M Y nodes n less d.few long b.tabled.lists (lower_all (ends_in X n) (halves_in X n mid)) ends_roomy a ends
+    lowered_roomy = after_roomy s X M M nodes n less d.few long b.tabled.lists (lower_all (ends_in X n) (halves_in X n mid)) ends_roomy a ends
 
     pub lowered_lists : Lists s M nodes n
-    lowered_lists = after_lists s X M Y nodes n less d.few long b.tabled.lists (lower_all (ends_in X n) (halves_in X n mid)) ends_roomy a ends
+    lowered_lists = after_lists s X M M nodes n less d.few long b.tabled.lists (lower_all (ends_in X n) (halves_in X n mid)) ends_roomy a ends
 
-    module _ (end : ℕ) (t : Settled s M Y nodes n mid end (halves_in M n a)) (out : List ℕ) (room : 16 * nodes ≤ length out) where
+    module _ {Y : List ℕ} {end : ℕ} (t : Settled s M Y nodes n mid end (halves_in M n a)) (out : List ℕ) (room : 16 * nodes ≤ length out) where
       v : Settled s X Y nodes n mid end (lower_all (ends_in X n) (halves_in X n mid))
       v = after_settled s X M Y nodes n less d.few long b.tabled.lists (lower_all (ends_in X n) (halves_in X n mid)) ends_roomy a ends mid end t
 
@@ -117,7 +118,7 @@ module _ (s : Source) (g : Graph) (nodes n : ℕ) (d : Drawn g nodes n) where
       unsaid : Told g (vertices n) out
       unsaid = record { says = λ v l k. absurd (k (subst T (sym (get_or-replicate n v true false (omega (arith, d.n_is)))) tt)) }
 
-      pub first_explained : Explaining s g Y (freed_all nodes 2 1 (waited_from Y n mid end) (freed_all nodes 1 1 (waited_from X n 0 mid) out)) nodes n end 1
+      pub first_explained : Explaining s g Y (freed_all nodes (leads_to_none 1) (waited_from Y n mid end) (freed_all nodes (not_led_to 1) (waited_from X n 0 mid) out)) nodes n end 1
       first_explained =
           explained s g nodes n d (vertices n) (seed_to n (record { degrees = raise_to n b.degrees; waiting = [] })) 0 (ends_to lists n) []
           (start_ready n lists b.degrees b.long b.outs (arcs g) b.right) (start_in n lists b.degrees b.long b.outs (arcs g) b.right) (ends_out n lists)
@@ -126,5 +127,5 @@ module _ (s : Source) (g : Graph) (nodes n : ℕ) (d : Drawn g nodes n) where
           (settled_roomy s X Y nodes n mid end (lower_all (ends_in X n) (halves_in X n mid)) b.tabled.lists ends_roomy v)
           (tabled_steady s g X Y nodes n less d.few long v.went.frame b.tabled) out room unsaid
 
-      pub first_outside : Outside 0 (16 * nodes) out (freed_all nodes 2 1 (waited_from Y n mid end) (freed_all nodes 1 1 (waited_from X n 0 mid) out))
-      first_outside = outside_trans (freed_outside nodes 1 1 (waited_from X n 0 mid) out) (freed_outside nodes 2 1 (waited_from Y n mid end) (freed_all nodes 1 1 (waited_from X n 0 mid) out))
+      pub first_outside : Outside 0 (16 * nodes) out (freed_all nodes (leads_to_none 1) (waited_from Y n mid end) (freed_all nodes (not_led_to 1) (waited_from X n 0 mid) out))
+      first_outside = outside_trans (freed_outside nodes (not_led_to 1) (waited_from X n 0 mid) out) (freed_outside nodes (leads_to_none 1) (waited_from Y n mid end) (freed_all nodes (not_led_to 1) (waited_from X n 0 mid) out))

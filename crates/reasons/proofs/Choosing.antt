@@ -13,7 +13,7 @@ use Rattle.le.specs.Le.{row}
 use Rattle.choice.specs.Arcs.{Set, has, vertices, without, size, into, out}
 use Rattle.choice.specs.Choice.{core, Best}
 use Rattle.choice.specs.Drawing.{arcs, selectable}
-use Rattle.choice.specs.Reasons.{picked, numbers_of, reason, Because, is_best}
+use Rattle.choice.specs.Reasons.{picked, numbers_of, reason, Because, is_best, not_led_to, leads_to_none}
 use Rattle.choice.proofs.Reasons.{known_next}
 use Rattle.choice.proofs.ReasonsGraphs.{reason_only}
 use Rattle.choice.proofs.Sets.{has_lt, stays}
@@ -192,7 +192,7 @@ module _ (s : Source) (g : Graph) (W buffer : List ℕ) (nodes n end stage : ℕ
       told_new : Told g (without best (core (arcs g) x.begun)) (entered buffer best ns)
       told_new = told_chosen low room
 
-      next : Explaining s g X (freed_all nodes 2 (stage + 1) (waited_from X n c.mid last) (freed_all nodes 1 (stage + 1) (waited_from c.middle n (length (halves_in W n end).waiting) c.mid) (entered buffer best ns))) nodes n last (stage + 1)
+      next : Explaining s g X (freed_all nodes (leads_to_none (stage + 1)) (waited_from X n c.mid last) (freed_all nodes (not_led_to (stage + 1)) (waited_from c.middle n (length (halves_in W n end).waiting) c.mid) (entered buffer best ns))) nodes n last (stage + 1)
       next =
           explained s g nodes n d (without best (core (arcs g) x.begun)) (lower_all (neighbours (arcs g) (2 * best)) (bared W n end best)) (length (halves_in W n end).waiting) (neighbours (arcs g) (2 * best + 1)) (best ∷ x.picked)
           (chosen_ready (arcs g) (selectable g) n (neighbours (arcs g)) k (core (arcs g) x.begun) (halves_in W n end) x.picked going best b)
@@ -210,7 +210,7 @@ module _ (s : Source) (g : Graph) (W buffer : List ℕ) (nodes n end stage : ℕ
       pub chose_explained : Explaining s g X new nodes n last (stage + 1)
       chose_explained =
           subst (λ (o : List ℕ). Explaining s g X o nodes n last (stage + 1))
-          ((λ i. freed_all nodes 2 (stage + 1) (waited_from X n c.mid last) (freed_all nodes 1 (stage + 1) (waited_from c.middle n (e_is i) c.mid) (entered buffer best ns))) ∙ sym c.is) next
+          ((λ i. freed_all nodes (leads_to_none (stage + 1)) (waited_from X n c.mid last) (freed_all nodes (not_led_to (stage + 1)) (waited_from c.middle n (e_is i) c.mid) (entered buffer best ns))) ∙ sym c.is) next
 
       -- the degrees only fell
       pub chose_less : (y : ℕ) → get_or (degrees_in X n) y 0 ≤ get_or (degrees_in W n) y 0

@@ -17,7 +17,8 @@ use Rattle.choice.specs.Drawing.{chosen}
 use Rattle.choice.specs.Reasons.{Reason, picked, not_led_to, leads_to_none, numbers_of, reason, reasons}
 use Rattle.choice.proofs.ReasonsGraphs.{reasons_length}
 use Rattle.form.specs.Form.{Gives}
-use Rattle.form.specs.declared.Outcome.TheVariants as call
+use Rattle.form.specs.declared.Refusal.TheVariants as why
+use Rattle.std.specs.Prelude.{Ok, Err}
 use Rattle.form.proofs.Answers.{gives_refused, gives_done}
 use Rattle.graph.specs.Answer.{Answer, answered, Result, lay, ◌else◌, ◌>>=◌, ◌>>◌}
 use Rattle.graph.specs.Calls.{fit}
@@ -36,8 +37,8 @@ use Rattle.reasons.proofs.Choosing.{explaining_same, settled_state}
 
 -- ---- the queue
 
-module _ (s : Source) (g : Graph) (W buffer : List ℕ) (nodes n end : ℕ) (d : Drawn g nodes n) (long : queue_at + 2 * nodes ≤ length W) (x : Explaining s g W buffer nodes n end 1)
-    (X : List ℕ) (is : X ≡ sets W picked_at (replicate nodes 0)) where
+module _ {s : Source} {g : Graph} {W buffer : List ℕ} {nodes n end : ℕ} (d : Drawn g nodes n) (long : queue_at + 2 * nodes ≤ length W) (x : Explaining s g W buffer nodes n end 1)
+    {X : List ℕ} (is : X ≡ sets W picked_at (replicate nodes 0)) where
   X_long : length X ≡ length W
   X_long = ap length is ∙ length-sets W picked_at (replicate nodes 0)
 
@@ -52,7 +53,7 @@ module _ (s : Source) (g : Graph) (W buffer : List ℕ) (nodes n end : ℕ) (d :
       let k = length-replicate {A = ℕ} nodes 0 in
       absurd (omega (arith, ap (λ (Z : List ℕ). get_or Z (picked_at + v) 0) is ∙ get_d_sets W picked_at (replicate nodes 0) v (omega arith) (omega (arith, d.few_nodes)) ∙ get_or-replicate nodes v 0 0 l, e))
 
-  module _ (Y : List ℕ) (m : ℕ) (made : Made X Y nodes n m) where
+  module _ {Y : List ℕ} {m : ℕ} (made : Made X Y nodes n m) where
     pub queue_explaining : Explaining s g Y buffer nodes n end 1
     queue_explaining = explaining_same s g X Y buffer nodes n end 1 d (omega (arith, X_long)) made.frame.long (λ i l. made.frame.same i (inl (omega arith))) cleared
 
@@ -126,13 +127,13 @@ module _ (g : Graph) (nodes : ℕ) (same : nodes ≡ length g.labels) where
           o.same i (inr (omega arith)) ∙ ap (λ (q : ℕ). get_or old q 0) p
           ∙ sym (ap (λ (q : ℕ). get_or (all_of ++ drop (length all_of) old) q 0) p ∙ get_or-append-add all_of (drop (length all_of) old) (i - length all_of) 0 ∙ get_or-drop (length all_of) old (i - length all_of) 0)
 
-  pub answer_10 : (old : List ℕ) → length old < 16 * nodes → Gives (answer_of g (length old)) (call.Refused (record { no = 10; place = 0 })) old old
+  pub answer_10 : (old : List ℕ) → length old < 16 * nodes → Gives (answer_of g (length old)) (Err why.NoRoom) old old
   unfolding fit ◌else◌ ◌>>◌ ◌>>=◌
   answer_10 old h =
       let l : length old < length all_of = omega (arith, all_long) in
-      gives_refused (record { no = 10; place = 0 }) old (rw (lt-leb (length all_of) (length old) l))
+      gives_refused why.NoRoom old (rw (lt-leb (length all_of) (length old) l))
 
-  pub answer_0 : (old new : List ℕ) (ids : ℕ) → 16 * nodes ≤ length old → Explained g old new nodes ids → Gives (answer_of g (length old)) (call.Done nodes ids) old new
+  pub answer_0 : (old new : List ℕ) (ids : ℕ) → 16 * nodes ≤ length old → Explained g old new nodes ids → Gives (answer_of g (length old)) (Ok (record { a = nodes; b = ids })) old new
   unfolding fit ◌else◌ ◌>>◌ ◌>>=◌
   answer_0 old new ids h x =
       let l : length all_of ≤ length old = omega (arith, all_long) in

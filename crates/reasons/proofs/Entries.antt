@@ -10,6 +10,7 @@ use lib.Seq.{sets, length-sets, take-suc, take_all}
 use borrow.Author.Tests.{lt-ltb, le-ltb}
 use Rattle.le.specs.Le.{bytes, row}
 use Rattle.le.proofs.Stores.{sets_append}
+use Rattle.choice.specs.Reasons.{Reason, numbers_of}
 use Rattle.reasons.specs.Told.{place_of, entered, freed_half, freed_all}
 
 pub entered_four : (out : List ℕ) (v a b c d : ℕ)
@@ -29,31 +30,31 @@ pub length_entered : (out : List ℕ) (v : ℕ) (numbers : List ℕ) → length 
 unfolding entered
 length_entered out v numbers = length-sets out (place_of v) (row 4 numbers)
 
-module _ (nodes kind stage : ℕ) where
+module _ (nodes : ℕ) (why : Reason) where
   -- a node, and an edge
-  pub freed_node : (y : ℕ) (out : List ℕ) → y / 2 < nodes → freed_half nodes kind stage y out ≡ entered out (y / 2) (kind ∷ stage ∷ 0 ∷ 0 ∷ [])
+  pub freed_node : (y : ℕ) (out : List ℕ) → y / 2 < nodes → freed_half nodes why y out ≡ entered out (y / 2) (numbers_of why)
   unfolding freed_half
   freed_node y out l = rw (lt-ltb (y / 2) nodes l)
 
-  pub freed_edge : (y : ℕ) (out : List ℕ) → nodes ≤ y / 2 → freed_half nodes kind stage y out ≡ out
+  pub freed_edge : (y : ℕ) (out : List ℕ) → nodes ≤ y / 2 → freed_half nodes why y out ≡ out
   unfolding freed_half
   freed_edge y out l = rw (le-ltb (y / 2) nodes l)
 
-  freed_snoc : (ys : List ℕ) (y : ℕ) (out : List ℕ) → freed_all nodes kind stage (ys ++ (y ∷ [])) out ≡ freed_half nodes kind stage y (freed_all nodes kind stage ys out)
+  freed_snoc : (ys : List ℕ) (y : ℕ) (out : List ℕ) → freed_all nodes why (ys ++ (y ∷ [])) out ≡ freed_half nodes why y (freed_all nodes why ys out)
   unfolding freed_all
   freed_snoc [] y out = refl
-  freed_snoc (x ∷ ys) y out = freed_snoc ys y (freed_half nodes kind stage x out)
+  freed_snoc (x ∷ ys) y out = freed_snoc ys y (freed_half nodes why x out)
 
   -- the first j of a list so far: start, turn and done
-  pub freed_none : (ys out : List ℕ) → out ≡ freed_all nodes kind stage (take 0 ys) out
+  pub freed_none : (ys out : List ℕ) → out ≡ freed_all nodes why (take 0 ys) out
   unfolding freed_all
   freed_none ys out = refl
 
-  pub freed_more : (ys out now new : List ℕ) (j y : ℕ) → j < length ys → now ≡ freed_all nodes kind stage (take j ys) out → y ≡ get_or ys j 0 → new ≡ freed_half nodes kind stage y now
-      → new ≡ freed_all nodes kind stage (take (j + 1) ys) out
+  pub freed_more : (ys out now new : List ℕ) (j y : ℕ) → j < length ys → now ≡ freed_all nodes why (take j ys) out → y ≡ get_or ys j 0 → new ≡ freed_half nodes why y now
+      → new ≡ freed_all nodes why (take (j + 1) ys) out
   freed_more ys out now new j y l e q f =
-      f ∙ (λ i. freed_half nodes kind stage (q i) (e i)) ∙ sym (freed_snoc (take j ys) (get_or ys j 0) out)
-      ∙ ap (λ (l : List ℕ). freed_all nodes kind stage l out) (sym (rw add-one (take-suc ys j 0 l)))
+      f ∙ (λ i. freed_half nodes why (q i) (e i)) ∙ sym (freed_snoc (take j ys) (get_or ys j 0) out)
+      ∙ ap (λ (l : List ℕ). freed_all nodes why l out) (sym (rw add-one (take-suc ys j 0 l)))
 
-  pub freed_done : (ys out now : List ℕ) (j : ℕ) → length ys ≤ j → now ≡ freed_all nodes kind stage (take j ys) out → now ≡ freed_all nodes kind stage ys out
-  freed_done ys out now j l e = e ∙ ap (λ (l : List ℕ). freed_all nodes kind stage l out) (take_all j ys l)
+  pub freed_done : (ys out now : List ℕ) (j : ℕ) → length ys ≤ j → now ≡ freed_all nodes why (take j ys) out → now ≡ freed_all nodes why ys out
+  freed_done ys out now j l e = e ∙ ap (λ (l : List ℕ). freed_all nodes why l out) (take_all j ys l)

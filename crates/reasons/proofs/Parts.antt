@@ -66,21 +66,21 @@ module _ (s : Source) (g : Graph) (nodes n : ℕ) (d : Drawn g nodes n) where
       e_is = sym (waited_long Y n e fits d.few Y_long) ∙ ap (λ (z : Halves). length z.waiting) is
 
       abbrev middle : List ℕ
-      middle = freed_all nodes 1 stage (waited_from X n first m) out
+      middle = freed_all nodes (not_led_to stage) (waited_from X n first m) out
 
-      told_first : Told g (led (arcs g) S) (freed_all nodes 1 stage (waited_from X n first m) out)
+      told_first : Told g (led (arcs g) S) (freed_all nodes (not_led_to stage) (waited_from X n first m) out)
       told_first =
-          told_part nodes 1 stage g (arcs g) S (led (arcs g) S) (waited_from X n first m) out d.nodes_is room
+          told_part nodes (not_led_to stage) g (arcs g) S (led (arcs g) S) (waited_from X n first m) out d.nodes_is room
           (subst (λ (z : Halves). Leaves (arcs g) S (drop first z.waiting) (led (arcs g) S)) (sym one) (leaves_first (arcs g) n lists k (selectable g) S h first ts picked r ins outs sofar spent))
           freed_first told
 
-      told_second : Told g (core (arcs g) S) (freed_all nodes 2 stage (waited_from Y n m e) (freed_all nodes 1 stage (waited_from X n first m) out))
+      told_second : Told g (core (arcs g) S) (freed_all nodes (leads_to_none stage) (waited_from Y n m e) (freed_all nodes (not_led_to stage) (waited_from X n first m) out))
       told_second =
-          told_part nodes 2 stage g (arcs g) (led (arcs g) S) (core (arcs g) S) (waited_from Y n m e) middle d.nodes_is (omega (arith, (freed_outside nodes 1 stage (waited_from X n first m) out).long))
+          told_part nodes (leads_to_none stage) g (arcs g) (led (arcs g) S) (core (arcs g) S) (waited_from Y n m e) middle d.nodes_is (omega (arith, (freed_outside nodes (not_led_to stage) (waited_from X n first m) out).long))
           (subst (λ (ys : List ℕ). Leaves (arcs g) (led (arcs g) S) ys (core (arcs g) S)) (λ i. drop (sym m_is i) (sym is i).waiting) (leaves_second (arcs g) n lists k (selectable g) S h first ts picked r ins outs sofar spent))
           freed_second told_first
 
-      pub explained : Explaining s g Y (freed_all nodes 2 stage (waited_from Y n m e) (freed_all nodes 1 stage (waited_from X n first m) out)) nodes n e stage
+      pub explained : Explaining s g Y (freed_all nodes (leads_to_none stage) (waited_from Y n m e) (freed_all nodes (not_led_to stage) (waited_from X n first m) out)) nodes n e stage
       explained = record {
         few = fits;
         roomy = roomy;

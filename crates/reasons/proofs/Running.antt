@@ -36,6 +36,7 @@ use Rattle.cycle.proofs.Begin.{Drawn}
 use Rattle.cycle.proofs.Best.{next_best, next_stuck}
 use Rattle.cycle.proofs.May.{same_may, may_edge, may_unkept, may_outside, none_outside}
 use Rattle.cycle.proofs.Staging.{keys_same}
+use Rattle.choice.specs.Reasons.{not_led_to, leads_to_none}
 use Rattle.reasons.specs.Told.{entered, freed_all, waited_from, Explaining, Chose, Explained}
 use Rattle.reasons.proofs.Choosing.{explaining_same, settled_state, gone_few, chose_frame, chose_explained, chose_less}
 use Rattle.reasons.proofs.Saying.{entered_outside, freed_outside}
@@ -79,8 +80,8 @@ module _ (s : Source) (g : Graph) (old W buffer : List ℕ) (nodes n last ids : 
       cuts : ids ≡ length (chosen g).ids
       cuts = omega (arith, free, chosen_and_free_are_all g d.proper, d.n_is)
 
-module _ (s : Source) (g : Graph) (old : List ℕ) (nodes n m : ℕ) (d : Drawn g nodes n) where
-  module _ (W buffer : List ℕ) (last ids : ℕ) (long : queue_at + 2 * m ≤ length W) (r : Running s g old W buffer nodes n m last ids) where
+module _ {s : Source} {g : Graph} {old : List ℕ} {nodes n : ℕ} (d : Drawn g nodes n) where
+  module _ {W buffer : List ℕ} {m last ids : ℕ} (long : queue_at + 2 * m ≤ length W) (r : Running s g old W buffer nodes n m last ids) where
     x : Explaining s g W buffer nodes n last (ids + 1)
     x = r.explaining
 
@@ -103,7 +104,7 @@ module _ (s : Source) (g : Graph) (old : List ℕ) (nodes n m : ℕ) (d : Drawn 
 
     -- ---- the queue brings the best node to the top
 
-    module _ (positive : 0 < m) (M : List ℕ) (best : ℕ) (a : Agreed W M nodes n m best) where
+    module _ (positive : 0 < m) {M : List ℕ} {best : ℕ} (a : Agreed W M nodes n m best) where
       M_front : (i : ℕ) → i < picked_at → get_or M i 0 ≡ get_or W i 0
       M_front i l = a.frame.same i (inl (omega arith))
 
@@ -116,13 +117,13 @@ module _ (s : Source) (g : Graph) (old : List ℕ) (nodes n m : ℕ) (d : Drawn 
       }
 
   -- as long as something is left it is the core's best
-  module _ (W buffer : List ℕ) (last ids : ℕ) (long : queue_at + 2 * m ≤ length W) (r : Running s g old W buffer nodes n m last ids) (positive : 0 < m) (M : List ℕ) (best : ℕ) (a : Agreed W M nodes n m best)
+  module _ {W buffer : List ℕ} {m last ids : ℕ} (long : queue_at + 2 * m ≤ length W) (r : Running s g old W buffer nodes n m last ids) (positive : 0 < m) {M : List ℕ} {best : ℕ} (a : Agreed W M nodes n m best)
       (f : last + ids ≢ n) where
     k : Running s g old M buffer nodes n m last ids
-    k = running_next W buffer last ids long r positive M best a
+    k = running_next long r positive a
 
     abbrev R : Set
-    R = core (arcs g) (running_next W buffer last ids long r positive M best a).explaining.begun
+    R = core (arcs g) (running_next long r positive a).explaining.begun
 
     M_long : queue_at + 2 * m ≤ length M
     M_long = omega (arith, a.frame.long)
@@ -131,13 +132,13 @@ module _ (s : Source) (g : Graph) (old : List ℕ) (nodes n m : ℕ) (d : Drawn 
     sure = may_all g W nodes n d r.unkept
 
     state : Between (arcs g) n R (degrees_in M n) [] []
-    state = settled_state s g M buffer nodes n last (ids + 1) d (omega (arith, M_long)) (running_next W buffer last ids long r positive M best a).explaining
+    state = settled_state s g M buffer nodes n last (ids + 1) d (omega (arith, M_long)) (running_next long r positive a).explaining
 
     alive : 0 < get_or (degrees_in M n) (2 * best) 0
     alive = go (eq-zero-or-pos (get_or (degrees_in M n) (2 * best) 0))
       where
         u : (u : ℕ) × T (has R u) × T (selectable g u)
-        u = some M buffer last ids M_long (running_next W buffer last ids long r positive M best a) f
+        u = some M_long (running_next long r positive a) f
 
         go : (get_or (degrees_in M n) (2 * best) 0 ≡ 0) ⊎ (0 < get_or (degrees_in M n) (2 * best) 0) → 0 < get_or (degrees_in M n) (2 * best) 0
         go (inl z) =
@@ -145,7 +146,7 @@ module _ (s : Source) (g : Graph) (old : List ℕ) (nodes n m : ℕ) (d : Drawn 
             absurd (false≢true (sym stuck ∙ (λ i. sure i u.0) ∙ is_true (selectable g u.0) u.2))
         go (inr l) = l
 
-    pub running_best : Best (arcs g) (selectable g) (core (arcs g) (running_next W buffer last ids long r positive M best a).explaining.begun) best
+    pub running_best : Best (arcs g) (selectable g) (core (arcs g) (running_next long r positive a).explaining.begun) best
     running_best = subst (λ (t : ℕ → Bool). Best (arcs g) t R best) sure (next_best (arcs g) R W M nodes n m best positive a state alive)
 
     pub best_low : best < nodes
@@ -153,8 +154,8 @@ module _ (s : Source) (g : Graph) (old : List ℕ) (nodes n m : ℕ) (d : Drawn 
 
   -- ---- it is chosen, in the room M after the queue's loop
 
-  module _ (M buffer : List ℕ) (last ids : ℕ) (long : queue_at + 2 * m ≤ length M) (r : Running s g old M buffer nodes n m last ids) (best : ℕ) (b : Best (arcs g) (selectable g) (core (arcs g) r.explaining.begun) best)
-      (low : best < nodes) (room : 16 * nodes ≤ length buffer) (X new : List ℕ) (end : ℕ) (c : Chose s M X buffer new nodes n best last (ids + 1) end) where
+  module _ {M buffer : List ℕ} {m last ids : ℕ} (long : queue_at + 2 * m ≤ length M) (r : Running s g old M buffer nodes n m last ids) {best : ℕ} (b : Best (arcs g) (selectable g) (core (arcs g) r.explaining.begun) best)
+      (low : best < nodes) (room : 16 * nodes ≤ length buffer) {X new : List ℕ} {end : ℕ} (c : Chose s M X buffer new nodes n best last (ids + 1) end) where
     frame : Steady M X
     frame = chose_frame s g M buffer nodes n last (ids + 1) d (omega arith) r.explaining best b low room X new end c
 
@@ -181,16 +182,16 @@ module _ (s : Source) (g : Graph) (old : List ℕ) (nodes n m : ℕ) (d : Drawn 
         ns = 0 ∷ (ids + 1) ∷ get_or M (2 * best) 0 ∷ get_or M (2 * best + 1) 0 ∷ []
 
         one : List ℕ
-        one = freed_all nodes 1 (ids + 1 + 1) (waited_from c.middle n last c.mid) (entered buffer best (0 ∷ (ids + 1) ∷ get_or M (2 * best) 0 ∷ get_or M (2 * best + 1) 0 ∷ []))
+        one = freed_all nodes (not_led_to (ids + 1 + 1)) (waited_from c.middle n last c.mid) (entered buffer best (0 ∷ (ids + 1) ∷ get_or M (2 * best) 0 ∷ get_or M (2 * best + 1) 0 ∷ []))
 
-        told : Outside 0 (16 * nodes) buffer (freed_all nodes 2 (ids + 1 + 1) (waited_from X n c.mid end) (freed_all nodes 1 (ids + 1 + 1) (waited_from c.middle n last c.mid) (entered buffer best (0 ∷ (ids + 1) ∷ get_or M (2 * best) 0 ∷ get_or M (2 * best + 1) 0 ∷ []))))
+        told : Outside 0 (16 * nodes) buffer (freed_all nodes (leads_to_none (ids + 1 + 1)) (waited_from X n c.mid end) (freed_all nodes (not_led_to (ids + 1 + 1)) (waited_from c.middle n last c.mid) (entered buffer best (0 ∷ (ids + 1) ∷ get_or M (2 * best) 0 ∷ get_or M (2 * best + 1) 0 ∷ []))))
         told =
             outside_trans (entered_outside buffer best ns refl nodes low)
-            (outside_trans (freed_outside nodes 1 (ids + 1 + 1) (waited_from c.middle n last c.mid) (entered buffer best ns)) (freed_outside nodes 2 (ids + 1 + 1) (waited_from X n c.mid end) one))
+            (outside_trans (freed_outside nodes (not_led_to (ids + 1 + 1)) (waited_from c.middle n last c.mid) (entered buffer best ns)) (freed_outside nodes (leads_to_none (ids + 1 + 1)) (waited_from X n c.mid end) one))
 
   -- ---- nothing is queued: nothing is left
 
-  module _ (W buffer : List ℕ) (last : ℕ) (long : queue_at ≤ length W) (x : Explaining s g W buffer nodes n last 1) (q : Queued (may W nodes) (degrees_in W n) (keys_in W queue_at 0)) (none : NoneKept W nodes)
+  module _ {W buffer : List ℕ} {last : ℕ} (long : queue_at ≤ length W) (x : Explaining s g W buffer nodes n last 1) (q : Queued (may W nodes) (degrees_in W n) (keys_in W queue_at 0)) (none : NoneKept W nodes)
       (o : Outside 0 (16 * nodes) old buffer) where
     pub none_queued : Explained g old buffer nodes 0
     none_queued = go (eq-zero-or-pos (size (core (arcs g) x.begun)))

@@ -7,12 +7,20 @@ use Rattle.graph.specs.Graph.{Graph}
 use Rattle.choice.specs.Arcs.{Set, has, vertices}
 use Rattle.choice.specs.Choice.{core}
 use Rattle.choice.specs.Drawing.{arcs, selectable, chosen}
-use Rattle.choice.specs.Reasons.{numbers_of, reason, Known}
+use Rattle.choice.specs.Reasons.{Reason, picked, not_led_to, leads_to_none, numbers_of, reason, Known}
 use Rattle.halves.specs.Halves.{within, Halves, lower_all, peel_from, drop_both, seed_to, raise_to, Going}
 use Rattle.incidence.specs.Incidence.{neighbours}
+use Rattle.reasons.specs.declared.Reason as code
+use Rattle.reasons.specs.declared.Reason.TheVariants as coded
 use Rattle.removal.specs.Room.{Source, halves_in, count_of, list_in, Roomy, Lists, Went}
 
 -- ---- entries
+
+-- the reason that is meant
+abbrev pub meant : code.Reason → Reason
+meant (coded.Chosen stage ins outs) = picked stage ins outs
+meant (coded.NotLedTo stage) = not_led_to stage
+meant (coded.LeadsToNone stage) = leads_to_none stage
 
 -- where the entry of node v stands
 abbrev pub place_of : ℕ → ℕ
@@ -22,14 +30,14 @@ place_of v = 16 * v
 unfoldable pub entered : List ℕ → ℕ → List ℕ → List ℕ
 entered out v numbers = sets out (place_of v) (row 4 numbers)
 
--- half y has gone: if its vertex is a node, its entry says that it was freed, by this kind and in this stage
-unfoldable pub freed_half : ℕ → ℕ → ℕ → ℕ → List ℕ → List ℕ
-freed_half nodes kind stage y out = cond (ltb (y / 2) nodes) (entered out (y / 2) (kind ∷ stage ∷ 0 ∷ 0 ∷ [])) out
+-- half y has gone: if its vertex is a node, its entry says why
+unfoldable pub freed_half : ℕ → Reason → ℕ → List ℕ → List ℕ
+freed_half nodes why y out = cond (ltb (y / 2) nodes) (entered out (y / 2) (numbers_of why)) out
 
 -- the same for each half of a list
-unfoldable pub freed_all : ℕ → ℕ → ℕ → List ℕ → List ℕ → List ℕ
-freed_all nodes kind stage [] out = out
-freed_all nodes kind stage (y ∷ ys) out = freed_all nodes kind stage ys (freed_half nodes kind stage y out)
+unfoldable pub freed_all : ℕ → Reason → List ℕ → List ℕ → List ℕ
+freed_all nodes why [] out = out
+freed_all nodes why (y ∷ ys) out = freed_all nodes why ys (freed_half nodes why y out)
 
 -- the entry of node v is that of its reason
 abbrev pub Says : Graph → List ℕ → ℕ → Type 0
@@ -97,8 +105,8 @@ pub record Chose (s : Source) (W X out new : List ℕ) (nodes n best end stage l
   pub mid : ℕ
   pub one : Settled s W middle nodes n end mid (lower_all (list_in s W nodes (2 * best)) (record { degrees = drop_both best (halves_in W n end).degrees; waiting = (halves_in W n end).waiting }))
   pub two : Settled s middle X nodes n mid last (lower_all (list_in s middle nodes (2 * best + 1)) (halves_in middle n mid))
-  pub is : new ≡ freed_all nodes 2 (stage + 1) (waited_from X n mid last)
-      (freed_all nodes 1 (stage + 1) (waited_from middle n end mid) (entered out best (0 ∷ stage ∷ get_or W (2 * best) 0 ∷ get_or W (2 * best + 1) 0 ∷ [])))
+  pub is : new ≡ freed_all nodes (leads_to_none (stage + 1)) (waited_from X n mid last)
+      (freed_all nodes (not_led_to (stage + 1)) (waited_from middle n end mid) (entered out best (0 ∷ stage ∷ get_or W (2 * best) 0 ∷ get_or W (2 * best + 1) 0 ∷ [])))
 
 -- all is told: so many nodes are chosen, every node's entry is that of its reason, and what stands behind the entries is as it was
 pub record Explained (g : Graph) (old new : List ℕ) (nodes ids : ℕ) : Type 0 where

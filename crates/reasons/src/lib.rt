@@ -7,71 +7,81 @@ ghost use Rattle.std.specs.Prelude.{◌≡◌, [], ◌∷◌, ◌+◌, ◌-◌, 
 ghost use Rattle.le.specs.Le.{words, Outside};
 ghost use Rattle.tables.specs.Tables.{most_vertices, waiting_at, queue_at, room_removal, room_choice};
 ghost use Rattle.halves.specs.Halves.{lower_all, raise_to};
+ghost use Rattle.incidence.specs.Incidence.{source_in};
 ghost use Rattle.removal.specs.Room.{source, part, halves_in, list_in, Roomy, Lists, Went};
-ghost use Rattle.form.specs.Form.{body_of, Gives};
-ghost use Rattle.form.specs.Stored.{graph_of, Stored};
-ghost use Rattle.reasons.specs.Told.{entered, freed_half, freed_all, waited_from, Settled, raised, end_at, ends_in, Begun, Explaining, Chose, Explained};
+ghost use Rattle.form.specs.Form.{Gives};
+ghost use Rattle.form.specs.Drawn.{graph_in};
+ghost use Rattle.choice.specs.Reasons.{numbers_of, not_led_to};
+ghost use Rattle.reasons.specs.Told.{meant, entered, freed_half, freed_all, waited_from, Settled, raised, end_at, ends_in, Begun, Explaining, Chose, Explained};
 ghost use Rattle.choice.specs.Calls.{reasons_call};
 ghost use Rattle.queue.specs.Keys.{Queued};
 ghost use Rattle.queue.specs.Places.{keys_in};
 ghost use Rattle.cycle.specs.Next.{may, NoneKept, degrees_in};
 
-use form::{Outcome, Reading, Refusal, Sizes, Step};
+use form::{Done, Drawing, Refusal};
 use le::Row;
 
 // The bytes of work room that the call needs.
 pub const ROOM_REASONS: usize = tables::CHOICE_BYTES;
 
-// The kinds of reasons.
-const CHOSEN: u32 = 0;
+// Why a node is no more, and in which stage it went.
+#[derive(Clone, Copy)]
+enum Reason {
+    // With its arcs in and out at that moment.
+    Chosen(u32, u32, u32),
+    NotLedTo(u32),
+    LeadsToNone(u32),
+}
 
-const NOT_LED_TO: u32 = 1;
-
-const LEADS_TO_NONE: u32 = 2;
+impl Reason {
+    // The numbers of an entry: the kind, the stage, the arcs in and out.
+    fn numbers(self) -> [u32; 4]
+        ensures { result ≡ numbers_of (meant self) }
+    {
+        match self {
+            Reason::Chosen(stage, ins, outs) => [0, stage, ins, outs],
+            Reason::NotLedTo(stage) => [1, stage, 0, 0],
+            Reason::LeadsToNone(stage) => [2, stage, 0, 0],
+        }
+    }
+}
 
 // The bytes of an entry.
 const ENTRY: usize = 16;
 
-// Four numbers as the entry of node v.
-fn put_reason(out: &mut [u8], v: usize, kind: u32, stage: usize, ins: u32, outs: u32)
-    requires { (16 * v + 16 ≤ length out.old) × (stage < 2 ^ 32) }
-    ensures { out.new ≡ entered out.old v (kind ∷ stage ∷ ins ∷ outs ∷ []) }
+// The entry of node v.
+fn put_reason(out: &mut [u8], v: usize, why: Reason)
+    requires { 16 * v + 16 ≤ length out.old }
+    ensures { out.new ≡ entered out.old v (numbers_of (meant why)) }
 {
     let at = ENTRY * v;
-    le::put4(out, at, kind);
-    le::put4(out, at + 4, stage as u32);
-    le::put4(out, at + 8, ins);
-    le::put4(out, at + 12, outs);
+    let numbers = why.numbers();
+    le::put4(out, at, numbers[0]);
+    le::put4(out, at + 4, numbers[1]);
+    le::put4(out, at + 8, numbers[2]);
+    le::put4(out, at + 12, numbers[3]);
 }
 
 // Half y has gone: if its vertex is a node, it was freed.
-fn put_half(out: &mut [u8], nodes: usize, y: usize, kind: u32, stage: usize)
-    requires { (16 * nodes ≤ length out.old) × (stage < 2 ^ 32) }
-    ensures { out.new ≡ freed_half nodes kind stage y out.old }
+fn put_half(out: &mut [u8], nodes: usize, y: usize, why: Reason)
+    requires { 16 * nodes ≤ length out.old }
+    ensures { out.new ≡ freed_half nodes (meant why) y out.old }
 {
     let v = y / 2;
     if v >= nodes {
         return;
     }
-    put_reason(out, v, kind, stage, 0, 0);
+    put_reason(out, v, why);
 }
 
 // The same for each of `count` halves that have waited, from place `from` on.
-fn put_freed(
-    out: &mut [u8],
-    room: &[u8],
-    nodes: usize,
-    from: usize,
-    count: usize,
-    kind: u32,
-    stage: usize,
-)
-    requires { (16 * nodes ≤ length out.old) × (stage < 2 ^ 32) × (from + count ≤ most_vertices) × (room_removal ≤ length room.now) }
-    ensures { out.new ≡ freed_all nodes kind stage (part (words room.now) (waiting_at + from) count) out.old }
+fn put_freed(out: &mut [u8], room: &[u8], nodes: usize, from: usize, count: usize, why: Reason)
+    requires { (16 * nodes ≤ length out.old) × (from + count ≤ most_vertices) × (room_removal ≤ length room.now) }
+    ensures { out.new ≡ freed_all nodes (meant why) (part (words room.now) (waiting_at + from) count) out.old }
 {
     for j in 0..count {
         let y = le::word(room, tables::WAITING + from + j) as usize;
-        put_half(out, nodes, y, kind, stage);
+        put_half(out, nodes, y, why);
     }
 }
 
@@ -85,16 +95,15 @@ fn settle(
     n: usize,
     from: usize,
     end: usize,
-    kind: u32,
-    stage: usize,
+    why: Reason,
 ) -> usize
-    requires nodes_in_bounds { (16 * nodes ≤ length out.old) × (stage < 2 ^ 32) × (from ≤ end) × (n ≤ most_vertices) × (nodes ≤ n) × (end ≤ n) × (room_removal ≤ length room.old) }
+    requires nodes_in_bounds { (16 * nodes ≤ length out.old) × (from ≤ end) × (n ≤ most_vertices) × (nodes ≤ n) × (end ≤ n) × (room_removal ≤ length room.old) }
     requires roomy { Roomy n (halves_in (words room.old) n end) × Lists (source s.now r) (words room.old) nodes n }
     ensures { Settled (source s.now r) (words room.old) (words room.new) nodes n from result (halves_in (words room.old) n end)
-        × (out.new ≡ freed_all nodes kind stage (waited_from (words room.new) n from result) out.old) }
+        × (out.new ≡ freed_all nodes (meant why) (waited_from (words room.new) n from result) out.old) }
 {
     let last = removal::peel(room, s, r, nodes, n, from, end);
-    put_freed(out, room, nodes, from, last - from, kind, stage);
+    put_freed(out, room, nodes, from, last - from, why);
     last
 }
 
@@ -108,17 +117,16 @@ fn walk(
     n: usize,
     y: usize,
     end: usize,
-    kind: u32,
-    stage: usize,
+    why: Reason,
 ) -> usize
-    requires nodes_in_bounds { (16 * nodes ≤ length out.old) × (stage < 2 ^ 32) × (y < 2 * n) × (n ≤ most_vertices) × (nodes ≤ n) × (end ≤ n) × (room_removal ≤ length room.old) }
+    requires nodes_in_bounds { (16 * nodes ≤ length out.old) × (y < 2 * n) × (n ≤ most_vertices) × (nodes ≤ n) × (end ≤ n) × (room_removal ≤ length room.old) }
     requires roomy { Roomy n (halves_in (words room.old) n end) × Lists (source s.now r) (words room.old) nodes n }
     ensures { Settled (source s.now r) (words room.old) (words room.new) nodes n end result
         (lower_all (list_in (source s.now r) (words room.old) nodes y) (halves_in (words room.old) n end))
-        × (out.new ≡ freed_all nodes kind stage (waited_from (words room.new) n end result) out.old) }
+        × (out.new ≡ freed_all nodes (meant why) (waited_from (words room.new) n end result) out.old) }
 {
     let gone = removal::lower_all(room, s, r, nodes, n, y, end);
-    settle(out, room, s, r, nodes, n, end, gone, kind, stage)
+    settle(out, room, s, r, nodes, n, end, gone, why)
 }
 
 // A vertex without an arc out is given one.
@@ -168,62 +176,60 @@ fn lower_ends(room: &mut [u8], n: usize, end: usize) -> usize
 }
 
 // The incidence graph of the stored drawing, and what has no arc in gone and told; answered is how many vertices that are.
-fn first_part(out: &mut [u8], room: &mut [u8], src: &[u8], z: Sizes) -> usize
-    requires nodes_in_bounds { (16 * z.nodes ≤ length out.old) × (room_removal ≤ length room.old) }
-    requires stored { Stored src.now z }
-    ensures { Begun (source src.now (body_of z)) (graph_of src.now) (words room.new) z.nodes (z.nodes + z.edges) result
-        × (out.new ≡ freed_all z.nodes 1 1 (waited_from (words room.new) (z.nodes + z.edges) 0 result) out.old) }
+fn first_part(out: &mut [u8], room: &mut [u8], drawing: Drawing<'_>) -> usize
+    requires nodes_in_bounds { (16 * drawing.sizes.nodes ≤ length out.old) × (room_removal ≤ length room.old) }
+    ensures { Begun (source_in drawing.entry) (graph_in drawing.entry) (words room.new) drawing.entry.sizes.nodes (drawing.entry.sizes.nodes + drawing.entry.sizes.edges) result
+        × (out.new ≡ freed_all drawing.entry.sizes.nodes (not_led_to 1) (waited_from (words room.new) (drawing.entry.sizes.nodes + drawing.entry.sizes.edges) 0 result) out.old) }
 {
-    incidence::build(room, src, z);
+    let z = drawing.sizes;
+    incidence::build(room, drawing);
     let n = z.nodes + z.edges;
     raise_ends(room, n);
     let seeds = removal::seed_all(room, n);
     settle(
         out,
         room,
-        src,
-        form::body_row(z),
+        drawing.src,
+        drawing.body(),
         z.nodes,
         n,
         0,
         seeds,
-        NOT_LED_TO,
-        1,
+        Reason::NotLedTo(1),
     )
 }
 
 // The first free removal, in its two parts; answered is how many vertices went.
-fn first_removal(out: &mut [u8], room: &mut [u8], src: &[u8], z: Sizes) -> usize
-    requires nodes_in_bounds { (16 * z.nodes ≤ length out.old) × (room_removal ≤ length room.old) }
-    requires stored { Stored src.now z }
-    ensures { Explaining (source src.now (body_of z)) (graph_of src.now) (words room.new) out.new z.nodes (z.nodes + z.edges) result 1
-        × Outside 0 (16 * z.nodes) out.old out.new }
+fn first_removal(out: &mut [u8], room: &mut [u8], drawing: Drawing<'_>) -> usize
+    requires nodes_in_bounds { (16 * drawing.sizes.nodes ≤ length out.old) × (room_removal ≤ length room.old) }
+    ensures { Explaining (source_in drawing.entry) (graph_in drawing.entry) (words room.new) out.new drawing.entry.sizes.nodes (drawing.entry.sizes.nodes + drawing.entry.sizes.edges) result 1
+        × Outside 0 (16 * drawing.entry.sizes.nodes) out.old out.new }
 {
-    let mid = first_part(out, room, src, z);
+    let z = drawing.sizes;
+    let mid = first_part(out, room, drawing);
     let n = z.nodes + z.edges;
     let gone = lower_ends(room, n, mid);
     settle(
         out,
         room,
-        src,
-        form::body_row(z),
+        drawing.src,
+        drawing.body(),
         z.nodes,
         n,
         mid,
         gone,
-        LEADS_TO_NONE,
-        1,
+        Reason::LeadsToNone(1),
     )
 }
 
 // The entry of a chosen node, with its present arcs in and out.
-fn put_chosen(out: &mut [u8], room: &[u8], best: usize, stage: usize)
-    requires { (16 * best + 16 ≤ length out.old) × (stage < 2 ^ 32) × (8 * best + 8 ≤ length room.now) }
+fn put_chosen(out: &mut [u8], room: &[u8], best: usize, stage: u32)
+    requires { (16 * best + 16 ≤ length out.old) × (8 * best + 8 ≤ length room.now) }
     ensures { out.new ≡ entered out.old best (0 ∷ stage ∷ get_or (words room.now) (2 * best) 0 ∷ get_or (words room.now) (2 * best + 1) 0 ∷ []) }
 {
     let ins = le::word(room, 2 * best);
     let outs = le::word(room, 2 * best + 1);
-    put_reason(out, best, CHOSEN, stage, ins, outs);
+    put_reason(out, best, Reason::Chosen(stage, ins, outs));
 }
 
 // One stage: the best node is told chosen and goes, and then what may go freely, in two parts, as the next stage tells it; answered is how many went freely so far.
@@ -236,7 +242,7 @@ fn choose(
     n: usize,
     best: usize,
     end: usize,
-    stage: usize,
+    stage: u32,
 ) -> usize
     requires nodes_in_bounds { (16 * nodes ≤ length out.old) × (stage + 1 < 2 ^ 32) × (best < nodes) × (n ≤ most_vertices) × (nodes ≤ n) × (end ≤ n) × (room_removal ≤ length room.old) }
     requires roomy { Roomy n (halves_in (words room.old) n end) × Lists (source s.now r) (words room.old) nodes n }
@@ -254,8 +260,7 @@ fn choose(
         n,
         2 * best,
         end,
-        NOT_LED_TO,
-        stage + 1,
+        Reason::NotLedTo(stage + 1),
     );
     walk(
         out,
@@ -266,64 +271,67 @@ fn choose(
         n,
         2 * best + 1,
         mid,
-        LEADS_TO_NONE,
-        stage + 1,
+        Reason::LeadsToNone(stage + 1),
     )
 }
 
 // All stages, the first removal being done and the queue made; answered is how many nodes are chosen.
-fn explain(out: &mut [u8], room: &mut [u8], src: &[u8], z: Sizes, m: usize, end: usize) -> usize
-    requires nodes_in_bounds { (16 * z.nodes ≤ length out.old) × (0 < m) × (4 * (queue_at + 2 * m) ≤ length room.old) × Stored src.now z }
-    requires explaining { Explaining (source src.now (body_of z)) (graph_of src.now) (words room.old) out.old z.nodes (z.nodes + z.edges) end 1 }
-    requires queued { Queued (may (words room.old) z.nodes) (degrees_in (words room.old) (z.nodes + z.edges)) (keys_in (words room.old) queue_at m) × NoneKept (words room.old) z.nodes }
-    ensures { Explained (graph_of src.now) out.old out.new z.nodes result }
+fn explain(out: &mut [u8], room: &mut [u8], drawing: Drawing<'_>, m: usize, end: usize) -> usize
+    requires nodes_in_bounds { (16 * drawing.sizes.nodes ≤ length out.old) × (0 < m) × (4 * (queue_at + 2 * m) ≤ length room.old) }
+    requires explaining { Explaining (source_in drawing) (graph_in drawing) (words room.old) out.old drawing.sizes.nodes (drawing.sizes.nodes + drawing.sizes.edges) end 1 }
+    requires queued { Queued (may (words room.old) drawing.sizes.nodes) (degrees_in (words room.old) (drawing.sizes.nodes + drawing.sizes.edges)) (keys_in (words room.old) queue_at m) × NoneKept (words room.old) drawing.sizes.nodes }
+    ensures { Explained (graph_in drawing.entry) out.old out.new drawing.entry.sizes.nodes result }
 {
+    let z = drawing.sizes;
     let n = z.nodes + z.edges;
-    let r = form::body_row(z);
+    let r = drawing.body();
     let mut last = end;
     let mut ids: usize = 0;
     while last + ids != n {
         let best = cycle::next_candidate(room, z.nodes, n, m);
         ids += 1;
-        last = choose(out, room, src, r, z.nodes, n, best, last, ids);
+        last = choose(
+            out,
+            room,
+            drawing.src,
+            r,
+            z.nodes,
+            n,
+            best,
+            last,
+            ids as u32,
+        );
     }
     ids
 }
 
 // The reasons of a stored drawing's nodes; answered is how many are chosen. Where none is queued after the first removal, nothing is left.
-fn put_reasons(out: &mut [u8], room: &mut [u8], src: &[u8], z: Sizes) -> usize
-    requires { (16 * z.nodes ≤ length out.old) × (room_choice ≤ length room.old) × Stored src.now z }
-    ensures { Explained (graph_of src.now) out.old out.new z.nodes result }
+fn put_reasons(out: &mut [u8], room: &mut [u8], drawing: Drawing<'_>) -> usize
+    requires { (16 * drawing.sizes.nodes ≤ length out.old) × (room_choice ≤ length room.old) }
+    ensures { Explained (graph_in drawing.entry) out.old out.new drawing.entry.sizes.nodes result }
 {
-    let end = first_removal(out, room, src, z);
+    let z = drawing.sizes;
+    let end = first_removal(out, room, drawing);
     let n = z.nodes + z.edges;
-    incidence::clear(room, tables::PICKED, z.nodes);
+    le::clear_words(room, tables::PICKED, z.nodes);
     let m = cycle::make_queue(room, z.nodes, n, 0);
     if m == 0 {
         return 0;
     }
-    explain(out, room, src, z, m, end)
+    explain(out, room, drawing, m, end)
 }
 
 // Why each node of the stored drawing is chosen or freed: how many entries stand in the buffer, and how many nodes are chosen.
-pub fn reasons(src: &[u8], out: &mut [u8], room: &mut [u8]) -> Outcome
+pub fn reasons(src: &[u8], out: &mut [u8], room: &mut [u8]) -> Result<Done, Refusal>
     ensures { Gives (reasons_call src.now (length out.old) (length room.old)) result out.old out.new }
 {
-    let lent = lists::work_room(room.len(), ROOM_REASONS);
-    let Step::Number(_) = lent else {
-        return Outcome::Refused(lent.refusal());
-    };
-    let graph = read::read(src);
-    let Reading::Sized(z) = graph else {
-        return Outcome::Refused(graph.refusal());
-    };
-    let pairs = lists::unpaired(z);
-    let Step::Number(_) = pairs else {
-        return Outcome::Refused(pairs.refusal());
-    };
+    lists::work_room(room.len(), ROOM_REASONS)?;
+    let drawing = read::read(src)?;
+    let z = drawing.sizes;
+    lists::unpaired(z)?;
     if out.len() < ENTRY * z.nodes {
-        return Outcome::Refused(Refusal { no: 10, place: 0 });
+        return Err(Refusal::NoRoom);
     }
-    let ids = put_reasons(out, room, src, z);
-    Outcome::Done { a: z.nodes, b: ids }
+    let ids = put_reasons(out, room, drawing);
+    Ok(Done { a: z.nodes, b: ids })
 }

@@ -103,9 +103,6 @@ peel_none zero lists first h l = refl
 peel_none (suc k) lists first h l = rw (le-ltb first (length h.waiting) l)
 
 module _ (s : Source) (W : List ℕ) (nodes n from end : ℕ) (few : n ≤ most_vertices) (long : picked_at ≤ length W) where
-  pub peeling_start : from ≤ end → end ≤ n → Roomy n (halves_in W n end) → Peeling s W W nodes n from end from end
-  peeling_start a b r = record { ordered = a; few = b; frame = steady_none W; roomy = r; same = refl }
-
   module _ (X : List ℕ) (first last : ℕ) (p : Peeling s W X nodes n from end first last) where
     waiting_long : length (halves_in X n last).waiting ≡ last
     unfolding halves_in

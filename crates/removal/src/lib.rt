@@ -1,24 +1,14 @@
 // Half vertices in a lent room: arcs that go, and vertices that go freely.
 #![tactic(auto)]
 
-ghost use Rattle.std.specs.Prelude.{◌≡◌, ◌-◌, ◌+◌, ◌*◌, ◌%◌, ◌<◌, ◌≤◌, min, length};
+ghost use Rattle.std.specs.Prelude.{◌-◌, ◌+◌, ◌*◌, ◌<◌, ◌≤◌, length};
 ghost use Rattle.le.specs.Le.{words};
 ghost use Rattle.le.specs.Rows.{Holds};
-ghost use Rattle.halves.specs.Halves.{mate, lower, lower_all, peel_from, pick, seed, seed_to};
+ghost use Rattle.halves.specs.Halves.{lower, lower_all, peel_from, pick, seed, seed_to};
 ghost use Rattle.tables.specs.Tables.{most_vertices, most_ports, room_removal};
 ghost use Rattle.removal.specs.Room.{source, halves_in, room_list, form_list, list_in, AllLow, Roomy, Went, Lists};
 
 use le::Row;
-
-// One less, or 0.
-fn less_one(d: u32) -> u32
-    ensures { result ≡ d - 1 }
-{
-    if d == 0 {
-        return 0;
-    }
-    d - 1
-}
 
 // An arc at half y has gone; answered is the new end of the waiting list.
 pub fn lower(room: &mut [u8], n: usize, y: usize, end: usize) -> usize
@@ -27,7 +17,7 @@ pub fn lower(room: &mut [u8], n: usize, y: usize, end: usize) -> usize
     ensures { Went (words room.old) (words room.new) n result (lower y (halves_in (words room.old) n end)) }
 {
     let d = le::word(room, y);
-    le::set_word(room, y, less_one(d));
+    le::set_word(room, y, d.saturating_sub(1));
     if d != 1 {
         return end;
     }
@@ -36,7 +26,8 @@ pub fn lower(room: &mut [u8], n: usize, y: usize, end: usize) -> usize
     end + 1
 }
 
-// The same for each half in a list that stands in the room.
+// The same for each half in a list that stands in the room. One function for this list and the form's, with a closure for half number j, is no plainer:
+// the closure would have to take the room, which changes at each turn, and promise the list's entry in each room that the walk leaves.
 fn lower_listed(room: &mut [u8], n: usize, start: usize, count: usize, end: usize) -> usize
     requires count_bound { (start + count ≤ most_ports) × (n ≤ most_vertices) × (end ≤ n) × (room_removal ≤ length room.old) }
     requires roomy { Roomy n (halves_in (words room.old) n end) × AllLow n (room_list (words room.old) start count) }
@@ -146,20 +137,6 @@ pub fn remove_vertex(
     lower_all(room, s, r, nodes, n, 2 * x + 1, mid)
 }
 
-// The less of two degrees.
-fn less(a: u32, b: u32) -> u32
-    ensures { result ≡ min a b }
-{
-    if a < b { a } else { b }
-}
-
-// Which half of a loose vertex ran out, by its arcs in: 0 if there is none, else 1. As a number, so that the compiler needs no branch.
-fn side_of(indegree: u32) -> usize
-    ensures { (indegree ≡ 0 → result ≡ 0) × (0 < indegree → result ≡ 1) × (result ≤ 1) }
-{
-    if indegree == 0 { 0 } else { 1 }
-}
-
 // If a half of x is 0, x has gone and waits.
 fn seed(room: &mut [u8], n: usize, x: usize, end: usize) -> usize
     requires { (x < n) × (n ≤ most_vertices) × (end ≤ x) × (room_removal ≤ length room.old) }
@@ -167,12 +144,13 @@ fn seed(room: &mut [u8], n: usize, x: usize, end: usize) -> usize
 {
     let indegree = le::word(room, 2 * x);
     let outdegree = le::word(room, 2 * x + 1);
-    if less(indegree, outdegree) != 0 {
+    if indegree.min(outdegree) != 0 {
         return end;
     }
     le::set_word(room, 2 * x, 0);
     le::set_word(room, 2 * x + 1, 0);
-    let y = 2 * x + side_of(indegree);
+    // the half that ran out: the first, if x has no arc in
+    let y = 2 * x + usize::from(indegree != 0);
     le::set_word(room, tables::WAITING + end, y as u32);
     end + 1
 }

@@ -60,11 +60,7 @@ fn tell(tally: Tally, to: &impl Print) -> std::io::Result<()> {
 fn fill(buffer: &mut [u8])
     ensures { buffer.new ≡ filled (length buffer.old) }
 {
-    let mut i = 0;
-    while i < buffer.len() {
-        buffer[i] = FILL;
-        i += 1;
-    }
+    buffer.fill(FILL);
 }
 
 // Whether a call returns what is due and leaves what is due in its answer buffers, which are of the recorded lengths.

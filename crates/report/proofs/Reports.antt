@@ -13,13 +13,13 @@ use lib.ListN.{length, get_or, drop, length-append}
 use borrow.Author.Tests.{le-leb, eqb-true, eqb-false}
 use Rattle.choice.specs.Calls.{listing, cycle_broken, cycle_breaking_nodes_call, room_cycle_breaking_nodes}
 use Rattle.choice.specs.Drawing.{chosen}
-use Rattle.form.specs.Form.{Gives, outcome, refusal_of, meant_by, meant, reading}
+use Rattle.form.specs.Form.{Gives, outcome, meant_by, meant, reading}
 use Rattle.form.specs.Stored.{graph_of, format_of, Stored}
-use Rattle.form.specs.declared.Outcome.TheVariants as call
-use Rattle.form.specs.declared.Outcome.{Outcome}
+use Rattle.form.specs.declared.Done.{Done}
 use Rattle.form.specs.declared.Format.{Format}
-use Rattle.form.specs.declared.Reading.{Reading}
-use Rattle.form.specs.declared.Reading.TheVariants as read
+use Rattle.form.proofs.Answers.{refused_so, answered_so}
+use Rattle.std.specs.Prelude.{Ok, Err}
+use Rattle.std.specs.Prelude.{Result as Returned}
 use Rattle.form.specs.declared.Refusal.{Refusal}
 use Rattle.form.specs.declared.Sizes.{Sizes}
 use Rattle.graph.specs.Answer as answer
@@ -39,7 +39,6 @@ use Rattle.graph.proofs.Steps.{same_answer}
 use Rattle.graph.proofs.Versions.{first_alone}
 use Rattle.le.proofs.Numbers.{below_each, below_widen, length_row, numbers_row}
 use Rattle.read.specs.Steps.{measured}
-use Rattle.read.proofs.Whole.{graph_refused, graph_read}
 use Rattle.text.specs.Text.{refused_line}
 use Rattle.report.specs.Report.{drawing_text, told, report_text, list_room}
 
@@ -50,19 +49,19 @@ pub record Alone (b : List ℕ) (z : Sizes) : Type 0 where
   pub first : format_of b ≡ form1
 
 -- what reading answered
-module _ (b : List ℕ) {f : Format} {r : Reading} (is : r ≡ measured f.width (read_as (meant f) b)) (first : meant f ≡ form1) where
-  as_first : r ≡ measured form1.width (read_as form1 b)
-  as_first = is ∙ ap (λ (k : graph.Format). measured k.width (read_as k b)) first
+module _ (b : List ℕ) {f : Format} (first : meant f ≡ form1) where
+  as_first : measured f.width (read_as (meant f) b) ≡ measured form1.width (read_as form1 b)
+  as_first = ap (λ (k : graph.Format). measured k.width (read_as k b)) first
 
-  pub unread_alone : (x : Refusal) → r ≡ read.Refused x → read_as form1 b ≡ refused (meant_by x)
-  unread_alone x e = graph_refused form1.width (read_as form1 b) x (sym e ∙ as_first)
+  pub unread_alone : (r : answer.Refusal) → refused r ≡ measured f.width (read_as (meant f) b) → read_as form1 b ≡ refused r
+  unread_alone r e = refused_so _ (read_as form1 b) r (e ∙ as_first)
 
-  pub read_alone : ((i : ℕ) → Fits w8 (get_or b i 0)) → (z : Sizes) → r ≡ read.Sized z → Alone b z
+  pub read_alone : ((i : ℕ) → Fits w8 (get_or b i 0)) → (z : Sizes) → answered z ≡ measured f.width (read_as (meant f) b) → Alone b z
   read_alone known z e =
       let t : Below 256 b = below_each 256 b (λ i l. omega (arith, known i)) in
-      let p = graph_read form1.width (read_as form1 b) z (sym e ∙ as_first) in
+      let p = answered_so _ (read_as form1 b) z (e ∙ as_first) in
       let whole = first_alone b p.0 t p.1 in
-      let s = stored b (read.Sized z) (ap read.Sized p.2 ∙ sym (ap reading whole)) t z refl in
+      let s = stored b t z (ap answered p.2 ∙ sym (ap reading whole)) in
       let same = same_answer (sym whole ∙ s.read_as) in
       record {
         stored = s;
@@ -144,35 +143,39 @@ module _ (b : List ℕ) (z : Sizes) (h : Alone b z) where
         go false q = let p = unpaired_8 g (eqb-false _ _ q) in paired (inside ∙ cut_paired (length old) p) (text_paired p)
         go true q = let p = unpaired_0 g (eqb-true _ _ q) in pairless (inside ∙ cut_pairless (length old) p fits) (text_pairless p)
 
-    module _ (r : Outcome) (new : List ℕ) (given : Gives (cycle_breaking_nodes_call b (length old) lent) r old new) where
+    module _ (new : List ℕ) where
+      abbrev Given : Returned Done Refusal → Type 0
+      Given r = Gives (cycle_breaking_nodes_call b (length old) lent) r old new
+
       -- the choice is refused for a pending pair, and then that is told
-      pub text_refused : (x : Refusal) → r ≡ call.Refused x → refused_line x.no ≡ report_text b
-      text_refused x e = go ways
+      pub text_refused : (x : Refusal) → Given (Err x) → refused_line (meant_by x).no ≡ report_text b
+      text_refused x given = go ways
         where
-          go : Ways → refused_line x.no ≡ report_text b
+          go : Ways → refused_line (meant_by x).no ≡ report_text b
           go (paired a t) =
-              let q : call.Refused x ≡ call.Refused (refusal_of (refusal 8)) = sym e ∙ given.result ∙ ap outcome a in
-              let same : x ≡ refusal_of (refusal 8) = cc in
-              ap (λ (y : Refusal). refused_line y.no) same ∙ t
+              let q : refused (meant_by x) ≡ outcome (refused (refusal 8)) = given.result ∙ ap outcome a in
+              let same : meant_by x ≡ refusal 8 = cc in
+              ap (λ (y : answer.Refusal). refused_line y.no) same ∙ t
           go (pairless a t) =
-              let q : call.Refused x ≡ call.Done cut.a cut.b = sym e ∙ given.result ∙ ap outcome a in
+              let q : refused (meant_by x) ≡ outcome (answered cut) = given.result ∙ ap outcome a in
               let o : ◌≡◌ {A = ℕ} 0 1 = cc in absurd (omega arith)
 
       -- otherwise it is told
-      pub text_done : (count free : ℕ) → r ≡ call.Done count free → Drawing b z count free new
-      text_done count free e = go ways
+      pub text_done : (d : Done) → Given (Ok d) → Drawing b z d.a d.b new
+      text_done d given = go ways
         where
-          go : Ways → Drawing b z count free new
+          go : Ways → Drawing b z d.a d.b new
           go (paired a t) =
-              let q : call.Done count free ≡ call.Refused (refusal_of (refusal 8)) = sym e ∙ given.result ∙ ap outcome a in
+              let q : answered d ≡ outcome (refused (refusal 8)) = given.result ∙ ap outcome a in
               let o : ◌≡◌ {A = ℕ} 0 1 = cc in absurd (omega arith)
           go (pairless a t) =
-              let q : call.Done count free ≡ call.Done cut.a cut.b = sym e ∙ given.result ∙ ap outcome a in
-              let many : count ≡ cut.a = cc in
-              let frees : free ≡ cut.b = cc in
+              let q : answered d ≡ outcome (answered cut) = given.result ∙ ap outcome a in
+              let same : d ≡ record { a = cut.a; b = cut.b } = cc in
+              let many = ap (λ (k : Done). k.a) same in
+              let frees = ap (λ (k : Done). k.b) same in
               let holds : new ≡ lay cut.bytes old = given.buffer ∙ ap (λ (m : Answer Result). laid m old) a in
               let width : z.width ≡ w = ap (λ (y : Sizes). y.width) s.sizes in
-              let back : span new (row_at 0 z.width) 0 count ≡ (chosen g).ids =
+              let back : span new (row_at 0 z.width) 0 d.a ≡ (chosen g).ids =
               (λ i. span (holds i) (row_at 0 (width i)) 0 (many i)) ∙ span_laid w (chosen g).ids old chosen_small in
               let long : length new ≡ length cut.bytes + length (drop (length cut.bytes) old) = ap length holds ∙ length-append cut.bytes _ in
               record {

@@ -10,7 +10,6 @@ ghost use Rattle.io.specs.Counts.{IsPrefixLen};
 ghost use Rattle.report.specs.Report.{report_text, report_room, list_room};
 ghost use Rattle.text.specs.Text.{Printed};
 
-use form::{Outcome, Reading};
 use lines::put_drawing;
 use text::put_refusal;
 
@@ -27,14 +26,13 @@ fn report(src: &[u8], list: &mut [u8], room: &mut [u8], out: &mut [u8]) -> usize
     ensures printed { Printed out.old 0 (report_text src.now) out.new result }
     ensures prefix_len { IsPrefixLen result out.new }
 {
-    let graph = read::read_as(src, form::form1());
-    let Reading::Sized(z) = graph else {
-        return put_refusal(out, graph.refusal());
+    let z = match read::read_as(src, form::form1()) {
+        Ok(z) => z,
+        Err(refusal) => return put_refusal(out, refusal),
     };
-    let choice = cycle::cycle_breaking_nodes(src, list, room);
-    match choice {
-        Outcome::Done { a, b } => put_drawing(out, z, list, a, b),
-        Outcome::Refused(x) => put_refusal(out, x),
+    match cycle::cycle_breaking_nodes(src, list, room) {
+        Ok(done) => put_drawing(out, z, list, done.a, done.b),
+        Err(refusal) => put_refusal(out, refusal),
     }
 }
 

@@ -13,7 +13,8 @@ use Rattle.graph.specs.Versions.{fitting}
 use Rattle.graph.proofs.Places.{sets_lay}
 use Rattle.form.specs.Form.{sizes_of, counts_of, Gives}
 use Rattle.form.specs.Stored.{graph_of, Stored}
-use Rattle.form.specs.declared.Outcome.TheVariants as call
+use Rattle.form.specs.declared.Refusal.TheVariants as why
+use Rattle.std.specs.Prelude.{Ok, Err}
 use Rattle.form.specs.declared.Sizes.{Sizes}
 use Rattle.form.proofs.Answers.{gives_refused, gives_done}
 use Rattle.write.specs.Write.{counted_as, fitted}
@@ -34,12 +35,12 @@ module _ {b : List ℕ} {z : Sizes} (s : Stored b z) (old : List ℕ) where
   unfolding six
   six_are = ap (λ (y : Sizes). y.nodes ∷ y.edges ∷ y.ports ∷ y.sources ∷ y.targets ∷ y.pairs ∷ []) s.sizes
 
-  pub sizes_10 : length old < 24 → Gives (read_call b (length old)) (call.Refused (record { no = 10; place = 0 })) old old
+  pub sizes_10 : length old < 24 → Gives (read_call b (length old)) (Err why.NoRoom) old old
   unfolding fit ◌else◌ ◌>>◌ ◌>>=◌
-  sizes_10 h = gives_refused (record { no = 10; place = 0 }) old (rw (s.read_as, lt-leb 24 (length old) h))
+  sizes_10 h = gives_refused why.NoRoom old (rw (s.read_as, lt-leb 24 (length old) h))
 
   pub sizes_0 : 24 ≤ length old → (new : List ℕ) → new ≡ puts old (row_at 0 4) 0 (z.nodes ∷ z.edges ∷ z.ports ∷ z.sources ∷ z.targets ∷ z.pairs ∷ [])
-      → Gives (read_call b (length old)) (call.Done 24 0) old new
+      → Gives (read_call b (length old)) (Ok (record { a = 24; b = 0 })) old new
   unfolding fit ◌else◌ ◌>>◌ ◌>>=◌ puts six
   sizes_0 h new e =
       gives_done (writing (row 4 (sizes (graph_of b))) 0) old new (rw (s.read_as, le-leb 24 (length old) h))

@@ -6,10 +6,10 @@ ghost use Rattle.le.specs.Rows.{row_at, puts};
 ghost use Rattle.graph.specs.Calls.{read_call, rewrite_call};
 ghost use Rattle.graph.specs.Form.{body, label_row};
 ghost use Rattle.form.specs.Form.{Gives, Low, counts_of, body_size};
-ghost use Rattle.form.specs.Stored.{graph_of, Stored};
+ghost use Rattle.form.specs.Drawn.{graph_in};
 ghost use Rattle.write.specs.Write.{drawn, Room};
 
-use form::{Outcome, Reading, Refusal, Sizes, Step};
+use form::{Done, Drawing, Refusal, Sizes};
 use le::Row;
 
 // How many bytes the sizes of a graph take: six numbers of 4 bytes.
@@ -27,60 +27,51 @@ fn put_sizes(out: &mut [u8], z: Sizes)
 }
 
 // The graph read: its sizes, written.
-pub fn read_sizes(src: &[u8], out: &mut [u8]) -> Outcome
+pub fn read_sizes(src: &[u8], out: &mut [u8]) -> Result<Done, Refusal>
     ensures { Gives (read_call src.now (length out.old)) result out.old out.new }
 {
-    let graph = read::read(src);
-    let Reading::Sized(z) = graph else {
-        return Outcome::Refused(graph.refusal());
-    };
+    let drawing = read::read(src)?;
     if out.len() < SIZES_BYTES {
-        return Outcome::Refused(Refusal { no: 10, place: 0 });
+        return Err(Refusal::NoRoom);
     }
-    put_sizes(out, z);
-    Outcome::Done {
+    put_sizes(out, drawing.sizes);
+    Ok(Done {
         a: SIZES_BYTES,
         b: 0,
-    }
+    })
 }
 
-// How many counts and ids a graph of these sizes has.
-fn body_size(z: Sizes) -> usize
-    requires { Low z }
-    ensures { result ≡ body_size z }
+// How many counts and ids a stored graph has.
+fn body_size(drawing: Drawing<'_>) -> usize
+    ensures { result ≡ body_size drawing.entry.sizes }
 {
-    2 * z.edges + z.ports + (z.sources + (z.targets + 2 * z.pairs))
+    let z = drawing.sizes;
+    drawing.lists() + (z.sources + (z.targets + 2 * z.pairs))
 }
 
-// The graph of sizes z, written in the sizes y that it has in the version which it fits.
-fn put_graph(src: &[u8], z: Sizes, y: Sizes, out: &mut [u8])
-    requires { Stored src.now z × Room out.old y × (counts_of y ≡ counts_of z) × (y.ports ≡ z.ports) }
-    ensures { out.new ≡ drawn out.old y (label_row (graph_of src.now)) (body (graph_of src.now)) }
+// A stored graph, written in the sizes y that it has in the version which it fits.
+fn put_graph(drawing: Drawing<'_>, y: Sizes, out: &mut [u8])
+    requires { Room out.old y × (counts_of y ≡ counts_of drawing.sizes) × (y.ports ≡ drawing.sizes.ports) }
+    ensures { out.new ≡ drawn out.old y (label_row (graph_in drawing.entry)) (body (graph_in drawing.entry)) }
 {
-    let labels = z.nodes + z.edges;
-    let numbers = body_size(z);
-    let from_labels = form::label_row(z);
-    let from_body = form::body_row(z);
+    let src = drawing.src;
+    let labels = drawing.sizes.nodes + drawing.sizes.edges;
+    let numbers = body_size(drawing);
     let to_labels = form::label_row(y);
     let to_body = form::body_row(y);
     write::put_header(out, y);
-    le::copy_numbers(out, to_labels, 0, src, from_labels, 0, labels);
-    le::copy_numbers(out, to_body, 0, src, from_body, 0, numbers);
+    le::copy_numbers(out, to_labels, 0, src, drawing.labels(), 0, labels);
+    le::copy_numbers(out, to_body, 0, src, drawing.body(), 0, numbers);
 }
 
 // The graph read and written.
-pub fn rewrite(src: &[u8], out: &mut [u8]) -> Outcome
+pub fn rewrite(src: &[u8], out: &mut [u8]) -> Result<Done, Refusal>
     ensures { Gives (rewrite_call src.now (length out.old)) result out.old out.new }
 {
-    let graph = read::read(src);
-    let Reading::Sized(z) = graph else {
-        return Outcome::Refused(graph.refusal());
-    };
-    let y = write::sized(z.nodes, z.edges, z.ports, z.sources, z.targets, z.pairs);
-    let fit = write::result_size(y, out.len());
-    let Step::Number(bytes) = fit else {
-        return Outcome::Refused(fit.refusal());
-    };
-    put_graph(src, z, y, out);
-    Outcome::Done { a: bytes, b: 0 }
+    let drawing = read::read(src)?;
+    let z = drawing.sizes;
+    let y = write::sized(z);
+    let bytes = write::result_size(y, out.len())?;
+    put_graph(drawing, y, out);
+    Ok(Done { a: bytes, b: 0 })
 }

@@ -6,7 +6,7 @@ use mathlib.Core.Path.{◌≡◌, refl, sym, ap, ◌∙◌, subst}
 use Prim.Native.Nat.{ℕ, ◌+◌, ◌*◌, ◌≤◌, ◌<◌}
 use native.Mathlib.Nat.{add-zero, le_antisymm, mul-le-mul_right}
 use native.Mathlib.Omega.{arith}
-use lib.Dec.{eqb, ltb}
+use lib.Dec.{eqb}
 use lib.ListN.{length, get_or, length-append}
 use borrow.Author.Tests.{eqb-true}
 use Rattle.form.specs.Form.{labels_of, body_of}
@@ -16,7 +16,9 @@ use Rattle.graph.specs.Graph.{Edge, edge_entries}
 use Rattle.graph.specs.Lists.{keep, joined}
 use Rattle.graph.specs.Spider.{freshened, after, freshened_edges, entries_of}
 use Rattle.le.specs.Rows.{span, puts}
-use Rattle.links.specs.Links.{cells, unlisted, is_listed, Linked, linked_to}
+use Rattle.links.specs.declared.Kind.{Kind}
+use Rattle.links.specs.declared.Kind.TheVariants.{GlobalSource, EdgeSource, EdgeTarget, GlobalTarget}
+use Rattle.links.specs.Links.{cell_of, cells, unlisted, is_listed, Linked, linked_to}
 use Rattle.rewriting.specs.Rewriting.{ids_at, labels_in, labelled, Fresh, more, kind_at, more_two, more_edges, Pass, Rewrites, Numbered, Prepared}
 use Rattle.graph.proofs.Laws.{joined_append}
 use Rattle.graph.proofs.Spiders.{after_append}
@@ -222,12 +224,11 @@ pub record Passed (y : Sizes) (nodes k n first a c start : ℕ) (room₀ out₀ 
   pub pass : Pass (is_listed nodes (cells room₀)) nodes start (cells room₀) out₀ (labels_in out₀ y nodes) y k (ids_at out₀ y k i)
       (freshened (is_listed nodes (cells room₀)) start (ids_at out₀ y k i)) (more_two first a c (is_listed nodes (cells room₀)) start (ids_at out₀ y k i)) (cells room) out next
 
-pub kind_low : (first a b i : ℕ) → a < 4 → b < 4 → kind_at first a b i < 4
-kind_low first a b i la lb = go (ltb i first)
-  where
-    go : (c : Bool) → cond c a b < 4
-    go true = la
-    go false = lb
+pub kind_low : (kind : Kind) → cell_of kind < 4
+kind_low GlobalSource = omega arith
+kind_low EdgeSource = omega arith
+kind_low EdgeTarget = omega arith
+kind_low GlobalTarget = omega arith
 
 module _ {y : Sizes} {nodes k n start : ℕ} {room₀ out₀ : List ℕ} (h : Prepared y nodes k n start room₀ out₀) (first a c : ℕ) where
   pub passed_none : Passed y nodes k n first a c start room₀ out₀ 0 room₀ out₀ start

@@ -1,6 +1,6 @@
 -- What the pass of spiderizing leaves: the rewritten lists, the labels of the fresh nodes, and the table with its chains.
 -- Assumes nothing.
-use Rattle.std.specs.Prelude.{ℕ, ◌+◌, ◌*◌, ◌-◌, ◌≤◌, ◌≡◌, Bool, cond, List, [], ◌∷◌, ◌++◌, map, eqb, ltb, length, get_or, take, drop}
+use Rattle.std.specs.Prelude.{ℕ, ◌+◌, ◌*◌, ◌≤◌, ◌≡◌, Bool, cond, List, [], ◌∷◌, ◌++◌, map, eqb, ltb, length, get_or, take, drop}
 use Rattle.le.specs.Le.{Below}
 use Rattle.le.specs.Rows.{Holds, span, puts}
 use Rattle.graph.specs.Lists.{keep, joined, among}

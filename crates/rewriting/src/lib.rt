@@ -10,10 +10,11 @@ ghost use Rattle.graph.specs.Form.{edge_row, body};
 ghost use Rattle.graph.specs.Spider.{entries};
 ghost use Rattle.form.specs.Form.{labels_of, body_of, lists_from};
 ghost use Rattle.write.specs.Write.{Room};
-ghost use Rattle.links.specs.Links.{cells, is_listed};
+ghost use Rattle.links.specs.Links.{cells, is_listed, cell_of};
 ghost use Rattle.rewriting.specs.Rewriting.{labelled, more, kind_at, more_two, EdgesPassed, Rewrites, Prepared, spidered, Laid};
 
 use form::{EdgeAt, Sizes};
+use links::Kind;
 
 // The label of a node as number k of the labels, all in the result.
 fn put_label(out: &mut [u8], y: Sizes, id: usize, k: usize)
@@ -30,14 +31,14 @@ fn put_label(out: &mut [u8], y: Sizes, id: usize, k: usize)
 fn rewrite_entry(
     y: Sizes,
     nodes: usize,
-    kind: usize,
+    kind: Kind,
     next: usize,
     room: &mut [u8],
     out: &mut [u8],
     k: usize,
 ) -> usize
-    requires { Prepared y nodes k 1 next room.old out.old × (kind < 4) }
-    ensures { Rewrites y nodes k 1 (more kind) next room.old out.old room.new out.new result }
+    requires { Prepared y nodes k 1 next room.old out.old }
+    ensures { Rewrites y nodes k 1 (more (cell_of kind)) next room.old out.old room.new out.new result }
 {
     let row = form::body_row(y);
     let id = le::number(out, row, k);
@@ -51,8 +52,8 @@ fn rewrite_entry(
 }
 
 // The kind of entry i of two lists that stand one after the other, the first of this length.
-fn kind_at(first: usize, a: usize, b: usize, i: usize) -> usize
-    ensures { result ≡ kind_at first a b i }
+fn kind_at(first: usize, a: Kind, b: Kind, i: usize) -> Kind
+    ensures { cell_of result ≡ kind_at first (cell_of a) (cell_of b) i }
 {
     if i < first { a } else { b }
 }
@@ -72,7 +73,7 @@ fn rewrite_edge(
 {
     let mut next = start;
     for i in 0..e.sources + e.targets {
-        let kind = kind_at(e.sources, links::EDGE_SOURCE, links::EDGE_TARGET, i);
+        let kind = kind_at(e.sources, Kind::EdgeSource, Kind::EdgeTarget, i);
         next = rewrite_entry(y, nodes, kind, next, room, out, e.first + i);
     }
     next
@@ -102,7 +103,7 @@ fn rewrite_lists(y: Sizes, nodes: usize, start: usize, room: &mut [u8], out: &mu
     let from = 2 * y.edges + y.ports;
     let mut next = start;
     for i in 0..y.sources + y.targets {
-        let kind = kind_at(y.sources, links::GLOBAL_SOURCE, links::GLOBAL_TARGET, i);
+        let kind = kind_at(y.sources, Kind::GlobalSource, Kind::GlobalTarget, i);
         next = rewrite_entry(y, nodes, kind, next, room, out, from + i);
     }
     next

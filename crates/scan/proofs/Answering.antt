@@ -1,7 +1,7 @@
 -- What the choice comes to once its nodes are marked: the list does not fit, or it is written.
 -- Assumes nothing.
 use mathlib.Core.List.{List, []}
-use mathlib.Core.Path.{◌≡◌, refl, sym, ap, ◌∙◌}
+use mathlib.Core.Path.{◌≡◌, sym, ap, ◌∙◌}
 use Prim.Native.Nat.{ℕ, ◌+◌, ◌*◌, ◌≤◌, ◌<◌}
 use native.Mathlib.Omega.{arith}
 use lib.ListN.{length, get_or}
@@ -17,22 +17,21 @@ use Rattle.choice.proofs.Fits.{below_in}
 use Rattle.choice.proofs.Kept.{answered_spares}
 use Rattle.choice.proofs.Passing.{shown_are, shown_next}
 use Rattle.form.specs.Form.{meant_by, Gives}
-use Rattle.form.specs.declared.Refusal as form
-use Rattle.form.specs.declared.Step.TheVariants as step
-use Rattle.form.specs.declared.Step.{Step}
-use Rattle.form.specs.declared.Outcome.TheVariants as call
-use Rattle.form.proofs.Answers.{number_refused, number_answered, gives_refused, gives_done}
-use Rattle.graph.specs.Answer.{Answer, refused, answered, Refusal, ◌else◌, ◌>>=◌, ◌>>◌}
+use Rattle.form.specs.declared.Refusal.{Refusal}
+use Rattle.form.specs.declared.Refusal.TheVariants as why
+use Rattle.std.specs.Prelude.{Ok, Err}
+use Rattle.form.proofs.Answers.{refused_so, answered_so, gives_refused, gives_done}
+use Rattle.graph.specs.Answer.{refused, answered, ◌else◌, ◌>>=◌, ◌>>◌}
 use Rattle.graph.specs.Calls.{fit}
 use Rattle.graph.specs.Graph.{Graph, Format}
 use Rattle.graph.proofs.Places.{sets_lay}
-use Rattle.graph.proofs.Steps.{never, same_answer, same_refusal, stops, goes}
+use Rattle.graph.proofs.Steps.{stops, goes}
 use Rattle.le.specs.Le.{row}
 use Rattle.le.specs.Rows.{row_at, place_in, puts}
 use Rattle.le.specs.declared.Row.{Row}
 use Rattle.le.proofs.Numbers.{length_row}
 use Rattle.le.proofs.Rows.{puts_append}
-use Rattle.scan.specs.Stages.{free_of, ChosenIn, chosen_as, is_chosen}
+use Rattle.scan.specs.Stages.{ChosenIn, chosen_as, is_chosen}
 use Rattle.sweeps.proofs.Going.{Drawn}
 
 -- one id more in the row
@@ -48,13 +47,13 @@ module _ (f : Format) (w : ℕ) (width : f.width ≡ w) (ids : List ℕ) (free c
   long : length (row f.width ids) ≡ count * w
   long = length_row f.width ids ∙ (λ i. many i * width i)
 
-  pub listing_10 : (old : List ℕ) → length old < count * w → Gives (listing f (length old) (chosen_as ids free)) (call.Refused (record { no = 10; place = 0 })) old old
+  pub listing_10 : (old : List ℕ) → length old < count * w → Gives (listing f (length old) (chosen_as ids free)) (Err why.NoRoom) old old
   unfolding listing fit ◌else◌ ◌>>◌ ◌>>=◌
   listing_10 old h =
       let l : length old < length (row f.width ids) = omega (arith, long) in
-      gives_refused (record { no = 10; place = 0 }) old (rw (lt-leb (length (row f.width ids)) (length old) l))
+      gives_refused why.NoRoom old (rw (lt-leb (length (row f.width ids)) (length old) l))
 
-  pub listing_0 : (old new : List ℕ) → count * w ≤ length old → new ≡ puts old (row_at 0 w) 0 ids → Gives (listing f (length old) (chosen_as ids free)) (call.Done count free) old new
+  pub listing_0 : (old new : List ℕ) → count * w ≤ length old → new ≡ puts old (row_at 0 w) 0 ids → Gives (listing f (length old) (chosen_as ids free)) (Ok (record { a = count; b = free })) old new
   unfolding listing puts fit ◌else◌ ◌>>◌ ◌>>=◌
   listing_0 old new h e =
       let list = row f.width ids in
@@ -65,21 +64,13 @@ module _ (f : Format) (w : ℕ) (width : f.width ≡ w) (ids : List ℕ) (free c
       (e ∙ (λ i. sets old (front i) (row (sym width i) ids)) ∙ sets_lay list old l))
 
 -- the engine's answer in the call
-free_refused : (a : Answer Chosen) (r : Refusal) → free_of a ≡ refused r → a ≡ refused r
-free_refused (refused q) r e = ap refused (same_refusal e)
-free_refused (answered c) r e = absurd (never (sym e))
+module _ (kept : List ℕ) (g : Graph) (d : Drawn g) (nodes n : ℕ) (nodes_is : nodes ≡ length g.labels) (n_is : n ≡ vertex_count g) (room : List ℕ) where
+  pub keeping_refused : (x : Refusal) → ChosenIn kept g room (Err x) → (f : Format) (lent : ℕ) → (chosen_keeping kept g >>= listing f lent) ≡ refused (meant_by x)
+  keeping_refused x is f lent = stops (listing f lent) (refused_so (λ (c : Chosen). c.free) (chosen_keeping kept g) (meant_by x) is.is)
 
-free_answered : (a : Answer Chosen) (free : ℕ) → free_of a ≡ answered free → (c : Chosen) × (a ≡ answered c) × (c.free ≡ free)
-free_answered (refused q) free e = absurd (never e)
-free_answered (answered c) free e = (c, refl, same_answer e)
-
-module _ (kept : List ℕ) (g : Graph) (d : Drawn g) (nodes n : ℕ) (nodes_is : nodes ≡ length g.labels) (n_is : n ≡ vertex_count g) (room : List ℕ) (q : Step) (is : ChosenIn kept g room q) where
-  pub keeping_refused : (x : form.Refusal) → q ≡ step.Refused x → (f : Format) (lent : ℕ) → (chosen_keeping kept g >>= listing f lent) ≡ refused (meant_by x)
-  keeping_refused x e f lent = stops (listing f lent) (free_refused (chosen_keeping kept g) (meant_by x) (number_refused (free_of (chosen_keeping kept g)) q is.is x e))
-
-  module _ (free : ℕ) (e : q ≡ step.Number free) where
-    answer : (c : Chosen) × (chosen_keeping kept g ≡ answered c) × (c.free ≡ free)
-    answer = free_answered (chosen_keeping kept g) free (number_answered (free_of (chosen_keeping kept g)) q is.is free e)
+  module _ (free : ℕ) (is : ChosenIn kept g room (Ok free)) where
+    answer : (c : Chosen) × (chosen_keeping kept g ≡ answered c) × (free ≡ c.free)
+    answer = answered_so (λ (c : Chosen). c.free) (chosen_keeping kept g) free is.is
 
     spares : Spares kept g answer.0
     spares = answered_spares g d.proper kept answer.0 answer.1
@@ -91,7 +82,7 @@ module _ (kept : List ℕ) (g : Graph) (d : Drawn g) (nodes n : ℕ) (nodes_is :
         (λ x l. let m = is.marked answer.0 answer.1 x (omega (arith, nodes_is)) in ((λ t. m.0 (eqb-true (get_or room x 0) 2 t)), (λ i. eq-eqb (get_or room x 0) 2 (m.1 i))))
 
     pub keeping_counted : length (shown_below (is_chosen room) nodes) + free ≡ n
-    keeping_counted = (λ i. length (ids i) + sym answer.2 i) ∙ spares.all_counted ∙ sym n_is
+    keeping_counted = (λ i. length (ids i) + answer.2 i) ∙ spares.all_counted ∙ sym n_is
 
     pub keeping_listed_lem : (f : Format) (lent : ℕ) → (chosen_keeping kept g >>= listing f lent) ≡ listing f lent (chosen_as (shown_below (is_chosen room) nodes) free)
-    keeping_listed_lem f lent = goes (listing f lent) answer.1 ∙ (λ i. listing f lent (chosen_as (sym ids i) (answer.2 i)))
+    keeping_listed_lem f lent = goes (listing f lent) answer.1 ∙ (λ i. listing f lent (chosen_as (sym ids i) (sym answer.2 i)))

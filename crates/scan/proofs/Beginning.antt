@@ -9,7 +9,7 @@ use Prim.Native.Nat.{ℕ, zero, suc, ◌+◌, ◌*◌, ◌%◌, ◌^◌, ◌≤�
 use native.Mathlib.Decide.{dec_lt}
 use native.Mathlib.Nat.{mod-add-mod, zero-add, not-suc-le-zero}
 use native.Mathlib.Omega.{arith}
-use lib.Dec.{T, eqb}
+use lib.Dec.{eqb}
 use lib.ListN.{length, get_or, set, take, replicate, length-set, length-replicate, get_or-replicate}
 use lib.Seq.{sets, length-sets, get_or-set_same, get_or-set_other, take_all, ext_get_or}
 use borrow.Author.Tests.{eqb-true, eqb-false}

@@ -5,7 +5,7 @@ use mathlib.Core.List.{List, [], ◌∷◌}
 use mathlib.Core.Logic.{◌↔◌}
 use Prim.Native.Nat.{ℕ, ◌+◌, ◌≤◌, ◌<◌}
 use lib.ListN.{length, get_or, set}
-use Rattle.graph.specs.Answer.{Answer, refused, answered, refusal}
+use Rattle.graph.specs.Answer.{refused, answered, refusal}
 use Rattle.graph.specs.Graph.{Graph}
 use Rattle.graph.proofs.Steps.{never, same_answer}
 use Rattle.choice.specs.Arcs.{In, size, Stable}
@@ -16,11 +16,12 @@ use Rattle.choice.specs.Keeping.{unkept, chosen_keeping}
 use Rattle.choice.proofs.Fits.{proper_bounded}
 use Rattle.choice.proofs.Sets.{size_empty}
 use Rattle.choice.proofs.Sofar.{sofar_done}
-use Rattle.form.specs.Form.{numbered}
-use Rattle.form.specs.declared.Step.TheVariants as step
+use Rattle.form.specs.Form.{telling}
+use Rattle.form.specs.declared.Refusal.TheVariants as why
+use Rattle.std.specs.Prelude.{Ok, Err}
 use Rattle.marks.specs.Tables.{left}
 use Rattle.sweeps.specs.Sweeps.{State, Rests}
-use Rattle.scan.specs.Stages.{Top, free_of, ChosenIn, Begun}
+use Rattle.scan.specs.Stages.{Top, ChosenIn, Begun}
 use Rattle.scan.specs.declared.Best.{Best}
 use Rattle.sweeps.proofs.Going.{Drawn}
 use Rattle.scan.proofs.Choosing.{stuck, pick_state}
@@ -35,15 +36,15 @@ pub run_start : (kept : List ℕ) (g : Graph) (room : List ℕ) (free : ℕ) →
 run_start kept g room free b = record { picked = []; state = b.state; stable = b.stable }
 
 -- the choice is refused
-pub refused_in : (kept : List ℕ) (g : Graph) (room : List ℕ) → chosen_keeping kept g ≡ refused (refusal 16) → ChosenIn kept g room (step.Refused (record { no = 16; place = 0 }))
+pub refused_in : (kept : List ℕ) (g : Graph) (room : List ℕ) → chosen_keeping kept g ≡ refused (refusal 16) → ChosenIn kept g room (Err why.NothingToChoose)
 refused_in kept g room e = record {
-  is = sym (ap (λ (a : Answer Chosen). numbered (free_of a)) e);
+  is = sym (ap (telling (λ (c : Chosen). c.free)) e);
   marked = λ c f. absurd (never (sym e ∙ f));
 }
 
 module _ (g : Graph) (d : Drawn g) (kept room : List ℕ) (long : room_cycle_breaking_nodes_scanning ≤ length room) (free : ℕ) (r : Run kept g room free) where
   -- nothing that remains may be chosen
-  pub run_stuck : (b : Best) → Top room (length g.labels) b → b.score ≡ 0 → 0 < size (left (vertex_count g) room) → ChosenIn kept g room (step.Refused (record { no = 16; place = 0 }))
+  pub run_stuck : (b : Best) → Top room (length g.labels) b → b.score ≡ 0 → 0 < size (left (vertex_count g) room) → ChosenIn kept g room (Err why.NothingToChoose)
   run_stuck b top z some = refused_in kept g room (stuck g d room long kept r.picked free r.state b top z r.stable some)
 
   -- the best is picked, and then what is loose goes
@@ -53,9 +54,9 @@ module _ (g : Graph) (d : Drawn g) (kept room : List ℕ) (long : room_cycle_bre
       record { picked = b.node ∷ r.picked; state = s; stable = w.stable kept (b.node ∷ r.picked) (free + k) s }
 
   -- nothing remains
-  pub run_done : size (left (vertex_count g) room) ≡ 0 → ChosenIn kept g room (step.Number free)
+  pub run_done : size (left (vertex_count g) room) ≡ 0 → ChosenIn kept g room (Ok free)
   run_done none = record {
-    is = sym (ap (λ (a : Answer Chosen). numbered (free_of a)) w.1 ∙ ap (λ (k : ℕ). numbered (answered k)) w.4);
+    is = sym (ap (telling (λ (c : Chosen). c.free)) w.1 ∙ ap answered w.4);
     marked = λ c e v l.
         let same : w.0 ≡ c = same_answer (sym w.1 ∙ e) in
         let m = r.state.telling.chosen v l in

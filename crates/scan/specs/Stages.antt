@@ -1,14 +1,14 @@
 -- The best node, the stages, and the whole engine: what was chosen is marked.
 -- Assumes nothing.
-use Rattle.std.specs.Prelude.{◌≡◌, Bool, cond, List, [], ◌↔◌, ℕ, ◌+◌, ◌*◌, ◌%◌, ◌^◌, ◌≤◌, ◌<◌, eqb, length, get_or, take}
-use Rattle.graph.specs.Answer.{Answer, answered, refused}
+use Rattle.std.specs.Prelude.{◌≡◌, Bool, cond, List, [], ◌↔◌, ℕ, ◌+◌, ◌*◌, ◌%◌, ◌^◌, ◌≤◌, ◌<◌, Result, eqb, length, get_or, take}
+use Rattle.graph.specs.Answer.{answered}
 use Rattle.graph.specs.Graph.{Graph, edge_sources, edge_targets}
 use Rattle.choice.specs.Arcs.{In, how_many, vertices, Stable}
 use Rattle.choice.specs.Choice.{Chosen}
 use Rattle.choice.specs.Drawing.{arcs, vertex_count}
 use Rattle.choice.specs.Keeping.{chosen_keeping}
-use Rattle.form.specs.Form.{numbered}
-use Rattle.form.specs.declared.Step.{Step}
+use Rattle.form.specs.Form.{told, telling}
+use Rattle.form.specs.declared.Refusal.{Refusal}
 use Rattle.marks.specs.Tables.{left, degrees, worth_in, most_vertices}
 use Rattle.sweeps.specs.Sweeps.{Telling, State}
 use Rattle.scan.specs.declared.Best.{Best}
@@ -35,14 +35,9 @@ pub record Prepared (kept : List ℕ) (g : Graph) (room : List ℕ) : Type 0 whe
   pub telling : Telling kept g room [] 0
   pub all : left (vertex_count g) room ≡ vertices (vertex_count g)
 
--- the free count of an answer
-abbrev pub free_of : Answer Chosen → Answer ℕ
-free_of (refused r) = refused r
-free_of (answered c) = answered c.free
-
 -- q is the free count of the choice that keeps these nodes, or its refusal; and what it chooses is marked
-pub record ChosenIn (kept : List ℕ) (g : Graph) (room : List ℕ) (q : Step) : Type 0 where
-  pub is : q ≡ numbered (free_of (chosen_keeping kept g))
+pub record ChosenIn (kept : List ℕ) (g : Graph) (room : List ℕ) (q : Result ℕ Refusal) : Type 0 where
+  pub is : told q ≡ telling (λ (c : Chosen). c.free) (chosen_keeping kept g)
   pub marked : (c : Chosen) → chosen_keeping kept g ≡ answered c → (v : ℕ) → v < length g.labels → (get_or room v 0 ≡ 2) ↔ In v c.ids
 
 -- all that may go freely has gone, so many vertices; and nothing is chosen yet

@@ -7,14 +7,14 @@ ghost use Rattle.le.specs.Le.{Below, Wide};
 ghost use Rattle.le.specs.Rows.{Holds, row_at, span, puts};
 ghost use Rattle.graph.specs.Graph.{Format};
 ghost use Rattle.form.specs.Form.{Gives};
-ghost use Rattle.form.specs.Stored.{graph_of, Stored};
+ghost use Rattle.form.specs.Drawn.{graph_in};
 ghost use Rattle.choice.specs.Arcs.{size};
 ghost use Rattle.choice.specs.Passing.{shown, shown_below};
 ghost use Rattle.choice.specs.Calls.{room_cycle_breaking_nodes_scanning, listing, cycle_breaking_nodes_scanning_call};
 ghost use Rattle.marks.specs.Tables.{most_nodes, most_vertices, left};
 ghost use Rattle.scan.specs.Stages.{Top, better_of, Counted, Prepared, ChosenIn, Begun, chosen_as, is_chosen};
 
-use form::{Outcome, Reading, Refusal, Sizes, Step};
+use form::{Done, Drawing, Refusal, Sizes};
 use le::Row;
 
 // The bytes of work room that the call needs: the two tables, and then a byte for each edge.
@@ -51,46 +51,55 @@ fn best_node(room: &[u8], nodes: usize) -> Best
 
 // All stages, of which nothing is chosen yet and so many vertices went freely: what is chosen is marked, and answered is how many went freely; or the stages end with 16
 // where nothing that remains may be chosen.
-fn stages(room: &mut [u8], src: &[u8], z: Sizes, free: usize) -> Step
-    requires { Stored src.now z × (room_cycle_breaking_nodes_scanning ≤ length room.old) × (free + size (left (z.nodes + z.edges) room.old) ≡ z.nodes + z.edges) }
-    ensures { (kept : List ℕ) → Begun kept (graph_of src.now) room.old free → ChosenIn kept (graph_of src.now) room.new result }
+fn stages(room: &mut [u8], drawing: Drawing<'_>, free: usize) -> Result<usize, Refusal>
+    requires { (room_cycle_breaking_nodes_scanning ≤ length room.old) × (free + size (left (drawing.sizes.nodes + drawing.sizes.edges) room.old) ≡ drawing.sizes.nodes + drawing.sizes.edges) }
+    ensures { (kept : List ℕ) → Begun kept (graph_in drawing.entry) room.old free → ChosenIn kept (graph_in drawing.entry) room.new result }
 {
+    let z = drawing.sizes;
     let mut gone = free;
     let mut ids: usize = 0;
     while gone + ids != z.nodes + z.edges {
         let best = best_node(room, z.nodes);
         if best.score == 0 {
-            return Step::Refused(Refusal { no: 16, place: 0 });
+            return Err(Refusal::NothingToChoose);
         }
         let v = best.node;
         room[v] = marks::CHOSEN;
         ids += 1;
-        gone += sweeps::settle(room, src, z);
+        gone += sweeps::settle(room, drawing);
     }
-    Step::Number(gone)
+    Ok(gone)
 }
 
 // Counts the entries of all edges at their nodes.
-fn count_edges(room: &mut [u8], src: &[u8], z: Sizes)
-    requires { Stored src.now z × (room_cycle_breaking_nodes_scanning ≤ length room.old) × Counted (graph_of src.now) room.old room.old 0 }
-    ensures { Counted (graph_of src.now) room.old room.new z.edges }
+fn count_edges(room: &mut [u8], drawing: Drawing<'_>)
+    requires { (room_cycle_breaking_nodes_scanning ≤ length room.old) × Counted (graph_in drawing) room.old room.old 0 }
+    ensures { Counted (graph_in drawing.entry) room.old room.new drawing.entry.sizes.edges }
 {
-    let r = form::body_row(z);
+    let r = drawing.body();
     let mut k: usize = 0;
-    for i in 0..z.edges {
-        let e = form::edge_at(src, r, k);
-        marks::shift_each(room, src, r, e.first, e.sources, marks::ARC_OUT);
-        marks::shift_each(room, src, r, e.first + e.sources, e.targets, marks::ARC_IN);
+    for i in 0..drawing.sizes.edges {
+        let e = form::edge_at(drawing.src, r, k);
+        marks::shift_each(room, drawing.src, r, e.first, e.sources, marks::ARC_OUT);
+        marks::shift_each(
+            room,
+            drawing.src,
+            r,
+            e.first + e.sources,
+            e.targets,
+            marks::ARC_IN,
+        );
         k = e.end;
     }
 }
 
 // The tables of a stored drawing of which nothing has gone yet and the listed nodes are kept.
-fn prepare(room: &mut [u8], src: &[u8], z: Sizes, kept: &[u8], count: usize)
+fn prepare(room: &mut [u8], drawing: Drawing<'_>, kept: &[u8], count: usize)
     requires room_cycle_breaking_nodes_scanning_in_bounds { room_cycle_breaking_nodes_scanning ≤ length room.old }
-    requires stored { Stored src.now z × Holds kept.now (row_at 0 z.width) count × Below z.nodes (span kept.now (row_at 0 z.width) 0 count) }
-    ensures { Prepared (span kept.now (row_at 0 z.width) 0 count) (graph_of src.now) room.new }
+    requires stored { Holds kept.now (row_at 0 drawing.sizes.width) count × Below drawing.sizes.nodes (span kept.now (row_at 0 drawing.sizes.width) 0 count) }
+    ensures { Prepared (span kept.now (row_at 0 drawing.entry.sizes.width) 0 count) (graph_in drawing.entry) room.new }
 {
+    let z = drawing.sizes;
     le::clear(room, ROOM_CYCLE_BREAKING_NODES_SCANNING);
     marks::mark_all(room, z.nodes + z.edges);
     marks::mark_kept(
@@ -102,19 +111,24 @@ fn prepare(room: &mut [u8], src: &[u8], z: Sizes, kept: &[u8], count: usize)
         },
         count,
     );
-    count_edges(room, src, z);
+    count_edges(room, drawing);
 }
 
 // The choice of a stored drawing that keeps the listed nodes: its nodes marked in the room, and how many vertices went freely; or 16.
-fn mark_nodes(room: &mut [u8], src: &[u8], z: Sizes, kept: &[u8], count: usize) -> Step
+fn mark_nodes(
+    room: &mut [u8],
+    drawing: Drawing<'_>,
+    kept: &[u8],
+    count: usize,
+) -> Result<usize, Refusal>
     requires room_cycle_breaking_nodes_scanning_in_bounds { room_cycle_breaking_nodes_scanning ≤ length room.old }
-    requires stored { Stored src.now z × Holds kept.now (row_at 0 z.width) count × Below z.nodes (span kept.now (row_at 0 z.width) 0 count) }
-    ensures { ChosenIn (span kept.now (row_at 0 z.width) 0 count) (graph_of src.now) room.new result }
+    requires stored { Holds kept.now (row_at 0 drawing.sizes.width) count × Below drawing.sizes.nodes (span kept.now (row_at 0 drawing.sizes.width) 0 count) }
+    ensures { ChosenIn (span kept.now (row_at 0 drawing.entry.sizes.width) 0 count) (graph_in drawing.entry) room.new result }
 {
-    prepare(room, src, z, kept, count);
-    let gone = marks::test_all(room, z.nodes);
-    let more = sweeps::settle(room, src, z);
-    stages(room, src, z, gone + more)
+    prepare(room, drawing, kept, count);
+    let gone = marks::test_all(room, drawing.sizes.nodes);
+    let more = sweeps::settle(room, drawing);
+    stages(room, drawing, gone + more)
 }
 
 // v in the list, if it was chosen; answered is where the next id goes.
@@ -141,14 +155,14 @@ fn put_chosen(list: &mut [u8], room: &[u8], r: Row, nodes: usize)
 }
 
 // The chosen nodes as the answer: how many they are, and how many vertices went freely; or 10.
-fn put_answer(list: &mut [u8], room: &[u8], z: Sizes, free: usize) -> Outcome
+fn put_answer(list: &mut [u8], room: &[u8], z: Sizes, free: usize) -> Result<Done, Refusal>
     requires most_nodes_in_bounds { (most_nodes ≤ length room.now) × Wide z.width × (z.nodes ≤ most_nodes) × (z.nodes + z.edges ≤ most_vertices) }
     requires free_len { length (shown_below (is_chosen room.now) z.nodes) + free ≡ z.nodes + z.edges }
     ensures { (f : Format) → f.width ≡ z.width → Gives (listing f (length list.old) (chosen_as (shown_below (is_chosen room.now) z.nodes) free)) result list.old list.new }
 {
     let ids = z.nodes + z.edges - free;
     if list.len() < ids * z.width {
-        return Outcome::Refused(Refusal { no: 10, place: 0 });
+        return Err(Refusal::NoRoom);
     }
     put_chosen(
         list,
@@ -159,7 +173,7 @@ fn put_answer(list: &mut [u8], room: &[u8], z: Sizes, free: usize) -> Outcome
         },
         z.nodes,
     );
-    Outcome::Done { a: ids, b: free }
+    Ok(Done { a: ids, b: free })
 }
 
 // The nodes that break every directed cycle of the stored drawing, chosen greedily among those that are not kept: how many ids stand in the list, and how many vertices
@@ -169,28 +183,14 @@ pub fn cycle_breaking_nodes_scanning(
     kept: &[u8],
     list: &mut [u8],
     room: &mut [u8],
-) -> Outcome
+) -> Result<Done, Refusal>
     ensures { Gives (cycle_breaking_nodes_scanning_call src.now kept.now (length list.old) (length room.old)) result list.old list.new }
 {
-    let lent = lists::work_room(room.len(), ROOM_CYCLE_BREAKING_NODES_SCANNING);
-    let Step::Number(_) = lent else {
-        return Outcome::Refused(lent.refusal());
-    };
-    let graph = read::read(src);
-    let Reading::Sized(z) = graph else {
-        return Outcome::Refused(graph.refusal());
-    };
-    let ids = lists::id_list(kept, z.width, z.nodes);
-    let Step::Number(count) = ids else {
-        return Outcome::Refused(ids.refusal());
-    };
-    let pairs = lists::unpaired(z);
-    let Step::Number(_) = pairs else {
-        return Outcome::Refused(pairs.refusal());
-    };
-    let marked = mark_nodes(room, src, z, kept, count);
-    let Step::Number(free) = marked else {
-        return Outcome::Refused(marked.refusal());
-    };
+    lists::work_room(room.len(), ROOM_CYCLE_BREAKING_NODES_SCANNING)?;
+    let drawing = read::read(src)?;
+    let z = drawing.sizes;
+    let count = lists::id_list(kept, z.width, z.nodes)?;
+    lists::unpaired(z)?;
+    let free = mark_nodes(room, drawing, kept, count)?;
     put_answer(list, room, z, free)
 }

@@ -1,72 +1,46 @@
--- The ways out of the two calls: what their checks say of the definition's answer, and that the table lists what the call lists.
+-- The two calls: what is known once their checks are passed, and that the table lists what the call lists.
 -- Assumes nothing.
 use mathlib.Core.Bool.{Bool, true, false, cond}
 use mathlib.Core.List.{List, [], ◌∷◌}
-use mathlib.Core.Path.{◌≡◌, refl, sym, ap, ◌∙◌, subst}
-use Prim.Native.Nat.{ℕ, zero, suc, ◌+◌, ◌≤◌, ◌<◌}
+use mathlib.Core.Path.{◌≡◌, refl, sym, ap, ◌∙◌}
+use Prim.Native.Nat.{ℕ, zero, suc, ◌+◌, ◌*◌, ◌≤◌, ◌<◌}
 use native.Mathlib.Omega.{arith}
-use lib.Dec.{eqb, leb}
+use lib.Dec.{eqb}
 use lib.ListN.{length}
 use borrow.Author.Tests.{eqb-false, ne_eqb}
-use Rattle.form.specs.Form.{tested, reading, refusal_in, refusal_read, meant_by, Gives}
-use Rattle.form.specs.Stored.{graph_of, format_of, Stored}
-use Rattle.form.specs.declared.Outcome.TheVariants as call
-use Rattle.form.specs.declared.Reading.TheVariants as reads
-use Rattle.form.specs.declared.Reading.{Reading}
+use Rattle.std.specs.Borrow.{Bor}
+use Rattle.std.specs.Prelude.{Result as Returned}
+use Rattle.form.specs.Form.{Gives}
+use Rattle.form.specs.Drawn.{graph_in}
+use Rattle.form.specs.Stored.{format_of}
+use Rattle.form.specs.declared.Done.{Done}
+use Rattle.form.specs.declared.Drawing.{Drawing}
 use Rattle.form.specs.declared.Refusal.{Refusal}
 use Rattle.form.specs.declared.Sizes.{Sizes}
-use Rattle.form.specs.declared.Step.TheVariants as step
-use Rattle.form.specs.declared.Step.{Step}
-use Rattle.form.proofs.Answers.{gives_refused, work_short, work_enough, room_enough}
-use Rattle.form.proofs.Stored.{unread, stored}
-use Rattle.graph.specs.Answer.{Answer, Result, refused, ◌else◌, refusal}
-use Rattle.graph.specs.Calls.{Next, in_work_room, on_graph, room_spiderize}
+use Rattle.form.proofs.Drawn.{stored_in, at_source}
+use Rattle.graph.specs.Answer as answer
+use Rattle.graph.specs.Answer.{Answer, refused}
+use Rattle.graph.specs.Calls.{Next, on_graph, room_spiderize}
 use Rattle.graph.specs.Graph.{Graph, Format}
+use Rattle.write.proofs.Calls.{graph_stopped}
 use Rattle.graph.specs.Lists.{among, member, range}
-use Rattle.graph.specs.Versions.{read}
 use Rattle.graph.proofs.Kept.{below_range}
 use Rattle.le.specs.Le.{Below}
 use Rattle.links.specs.Links.{unlisted, is_listed, Heads, Linked}
 use Rattle.links.proofs.Cells.{listing}
 use Rattle.links.proofs.Chains.{heads_linked}
-use Rattle.write.proofs.Calls.{gives_by, graph_unread, graph_stopped}
 
--- the refusal that code passes on
-pub passes : {a : Answer Result} {old : List ℕ} {q x : Refusal} → q ≡ x → Gives a (call.Refused x) old old → Gives a (call.Refused q) old old
-passes {a} {old} e h = subst (λ (k : Refusal). Gives a (call.Refused k) old old) (sym e) h
+-- the room has a word for each node
+pub words_enough : (d : Drawing) {lent : ℕ} → room_spiderize ≤ lent → 4 * d.sizes.nodes ≤ lent
+words_enough d h = let s = stored_in d in omega (arith, s.within.counts.nodes, ap (λ (y : Sizes). y.nodes) s.sizes)
 
--- ---- the checks
+-- what is told of the bytes that were read is told of those that were lent
+module _ (d : Drawing) {s : Bor (List ℕ)} (is : d.src ≡ s) (next : Format → Graph → Answer Next) where
+  pub stopped : (n : ℕ) {r : answer.Refusal} → next (format_of d.src.now) (graph_in d) ≡ refused r → on_graph s.now n next ≡ refused r
+  stopped n {r} e = at_source (λ b. on_graph b n next ≡ refused r) is (graph_stopped d.src.now next n (stored_in d) e)
 
--- the work room and the form are good: what is known from there on
-pub record Opened (b : List ℕ) (lent : ℕ) (z : Sizes) : Type 0 where
-  pub enough : (a : Answer Result) → in_work_room room_spiderize lent a ≡ a
-  pub roomy : room_spiderize ≤ lent
-  pub form : Stored b z
-  pub nodes : z.nodes ≡ length (graph_of b).labels
-
-module _ (b : List ℕ) (lent : ℕ) {w : Step} (tests : w ≡ tested (leb room_spiderize lent else refusal 10)) where
-  pub opened : {n : ℕ} → w ≡ step.Number n → {r : Reading} → r ≡ reading (read b) → Below 256 b → {z : Sizes} → r ≡ reads.Sized z → Opened b lent z
-  opened {n} e {r} is bytes {z} d =
-      let s = stored b r is bytes z d in
-      record {
-        enough = λ a. work_enough room_spiderize lent a w tests n e;
-        roomy = room_enough room_spiderize lent w tests n e;
-        form = s;
-        nodes = ap (λ (y : Sizes). y.nodes) s.sizes;
-      }
-
-  -- the ways out before that, and after
-  module _ (next : Format → Graph → Answer Next) (old : List ℕ) {q x : Refusal} where
-    pub short : w ≡ step.Refused x → q ≡ refusal_in w → Gives (in_work_room room_spiderize lent (on_graph b (length old) next)) (call.Refused q) old old
-    short e is = passes (is ∙ ap refusal_in e) (gives_refused x old (work_short room_spiderize lent (on_graph b (length old) next) w tests x e))
-
-    pub unreadable : {n : ℕ} → w ≡ step.Number n → {r : Reading} → r ≡ reading (read b) → r ≡ reads.Refused x → q ≡ refusal_read r
-        → Gives (in_work_room room_spiderize lent (on_graph b (length old) next)) (call.Refused q) old old
-    unreadable {n} e {r} d h is = passes (is ∙ ap refusal_read h) (gives_by (work_enough room_spiderize lent (on_graph b (length old) next) w tests n e) (graph_unread b next old x (unread b r d x h)))
-
-pub stopped : {b : List ℕ} {lent : ℕ} {z : Sizes} → Opened b lent z → (next : Format → Graph → Answer Next) (old : List ℕ) {s : Step} {q x : Refusal} → s ≡ step.Refused x → q ≡ refusal_in s
-    → next (format_of b) (graph_of b) ≡ refused (meant_by x) → Gives (in_work_room room_spiderize lent (on_graph b (length old) next)) (call.Refused q) old old
-stopped {b} o next old {x = x} e is h = passes (is ∙ ap refusal_in e) (gives_by (o.enough (on_graph b (length old) next)) (graph_stopped b next old o.form x h))
+  pub given : {r : Returned Done Refusal} {old new : List ℕ} → Gives (on_graph d.src.now (length old) next) r old new → Gives (on_graph s.now (length old) next) r old new
+  given {r} {old} {new} h = at_source (λ b. Gives (on_graph b (length old) next) r old new) is h
 
 -- ---- the table lists what the call lists
 

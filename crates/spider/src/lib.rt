@@ -12,11 +12,12 @@ ghost use Rattle.graph.specs.Answer.{Answer, answered};
 ghost use Rattle.graph.specs.Merge.{looked};
 ghost use Rattle.graph.specs.Calls.{Next, on_graph, room_spiderize, spiderize_call, spiderize_nodes_call};
 ghost use Rattle.form.specs.Form.{Gives};
-ghost use Rattle.form.specs.Stored.{graph_of, format_of};
+ghost use Rattle.form.specs.Stored.{format_of};
+ghost use Rattle.form.specs.Drawn.{graph_in};
 ghost use Rattle.links.specs.Links.{cells, Heads};
 ghost use Rattle.copying.specs.Merged.{table_of, Lists, spidered_of, Ready};
 
-use form::{Outcome, Reading, Sizes, Step};
+use form::{Done, Drawing, Refusal};
 use le::Row;
 
 // The work room of either call: a word for each node, and behind them four cells for each, or three for each and one for each fresh node.
@@ -65,69 +66,57 @@ fn list_every(room: &mut [u8], nodes: usize)
 }
 
 // The merged graph, which has so many nodes, spiderized at the nodes that the table behind the map lists: 9 and 10, or its form.
-fn write_spiderized(src: &[u8], z: Sizes, nodes: usize, room: &mut [u8], out: &mut [u8]) -> Outcome
-    requires { Ready src.now z nodes room.old }
+fn write_spiderized(
+    drawing: Drawing<'_>,
+    nodes: usize,
+    room: &mut [u8],
+    out: &mut [u8],
+) -> Result<Done, Refusal>
+    requires { Ready drawing nodes room.old }
     ensures { (next : Format → Graph → Answer Next)
-        → next (format_of src.now) (graph_of src.now) ≡ answered (record { graph = spidered_of src.now nodes room.old; id = 0 })
-        → Gives (on_graph src.now (length out.old) next) result out.old out.new }
+        → next (format_of drawing.entry.src.now) (graph_in drawing.entry) ≡ answered (record { graph = spidered_of drawing.entry nodes room.old; id = 0 })
+        → Gives (on_graph drawing.entry.src.now (length out.old) next) result out.old out.new }
 {
-    let y = copying::result_sizes(src, z, nodes, room);
-    let size = write::result_size(y, out.len());
-    let Step::Number(bytes) = size else {
-        return Outcome::Refused(size.refusal());
-    };
-    copying::put_copied(src, z, y, room, out);
+    let y = copying::result_sizes(drawing, nodes, room);
+    let bytes = write::result_size(y, out.len())?;
+    copying::put_copied(drawing, y, room, out);
     let at = copying::TABLE;
-    let lists = 2 * z.edges + z.ports;
-    rewriting::rewrite_all(y, nodes, z.edges, lists, &mut room[at..], out);
-    Outcome::Done { a: bytes, b: 0 }
+    let edges = drawing.sizes.edges;
+    let rows = drawing.lists();
+    rewriting::rewrite_all(y, nodes, edges, rows, &mut room[at..], out);
+    Ok(Done { a: bytes, b: 0 })
 }
 
 // The graph merged, and spiderized at the nodes that those of a list became.
-pub fn spiderize_nodes(src: &[u8], ids: &[u8], out: &mut [u8], room: &mut [u8]) -> Outcome
+pub fn spiderize_nodes(
+    src: &[u8],
+    ids: &[u8],
+    out: &mut [u8],
+    room: &mut [u8],
+) -> Result<Done, Refusal>
     ensures { Gives (spiderize_nodes_call src.now ids.now (length out.old) (length room.old)) result out.old out.new }
 {
-    let lent = lists::work_room(room.len(), ROOM_SPIDERIZE_NODES);
-    let Step::Number(_) = lent else {
-        return Outcome::Refused(lent.refusal());
-    };
-    let graph = read::read(src);
-    let Reading::Sized(z) = graph else {
-        return Outcome::Refused(graph.refusal());
-    };
-    let list = lists::id_list(ids, z.width, z.nodes);
-    let Step::Number(n) = list else {
-        return Outcome::Refused(list.refusal());
-    };
-    let merging = classes::map_classes(src, z, room);
-    let Step::Number(nodes) = merging else {
-        return Outcome::Refused(merging.refusal());
-    };
+    lists::work_room(room.len(), ROOM_SPIDERIZE_NODES)?;
+    let drawing = read::read(src)?;
+    let z = drawing.sizes;
+    let n = lists::id_list(ids, z.width, z.nodes)?;
+    let nodes = classes::map_classes(drawing, room)?;
     let row = Row {
         at: 0,
         width: z.width,
     };
     list_nothing(room, nodes);
     list_classes(room, ids, row, n, nodes);
-    write_spiderized(src, z, nodes, room, out)
+    write_spiderized(drawing, nodes, room, out)
 }
 
 // The graph merged, and spiderized at all its nodes.
-pub fn spiderize(src: &[u8], out: &mut [u8], room: &mut [u8]) -> Outcome
+pub fn spiderize(src: &[u8], out: &mut [u8], room: &mut [u8]) -> Result<Done, Refusal>
     ensures { Gives (spiderize_call src.now (length out.old) (length room.old)) result out.old out.new }
 {
-    let lent = lists::work_room(room.len(), ROOM_SPIDERIZE);
-    let Step::Number(_) = lent else {
-        return Outcome::Refused(lent.refusal());
-    };
-    let graph = read::read(src);
-    let Reading::Sized(z) = graph else {
-        return Outcome::Refused(graph.refusal());
-    };
-    let merging = classes::map_classes(src, z, room);
-    let Step::Number(nodes) = merging else {
-        return Outcome::Refused(merging.refusal());
-    };
+    lists::work_room(room.len(), ROOM_SPIDERIZE)?;
+    let drawing = read::read(src)?;
+    let nodes = classes::map_classes(drawing, room)?;
     list_every(room, nodes);
-    write_spiderized(src, z, nodes, room, out)
+    write_spiderized(drawing, nodes, room, out)
 }

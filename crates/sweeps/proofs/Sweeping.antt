@@ -6,7 +6,7 @@ use mathlib.Core.List.{List, ◌++◌}
 use mathlib.Core.Logic.{◌⊎◌, inl, inr, ⊎_elim}
 use Prim.Native.Nat.{ℕ, suc, ◌+◌, ◌-◌, ◌≤◌, ◌<◌}
 use native.Mathlib.Decide.{dec_lt}
-use native.Mathlib.Nat.{eq-zero-or-pos, eq-or-lt_of_le, add-zero, not-suc-le-zero}
+use native.Mathlib.Nat.{eq-zero-or-pos, eq-or-lt_of_le, add-zero}
 use native.Mathlib.Omega.{arith}
 use lib.Dec.{T, ltb}
 use lib.ListN.{length, get_or}
@@ -178,9 +178,6 @@ module _ (g : Graph) (d : Drawn g) where
             away t = gone v (left n room) (subst (λ (S : Set). T (has S v)) (ap (left n) (still_new few e) ∙ lowered_left g d room long i less e (d.known i less).0 (d.known i less).1) t)
 
   -- ---- edge by edge
-
-  pub swept_start : (room : List ℕ) → Swept g room room 0 0 0
-  swept_start room = record { moves = moves_none g room; few = omega arith; still = λ e i l. absurd (not-suc-le-zero l); nodes = omega arith }
 
   module _ (old room : List ℕ) (long : room_cycle_breaking_nodes_scanning ≤ length room) (i all edges : ℕ) (less : i < length g.edges) (s : Swept g old room i all edges) where
     m : ℕ

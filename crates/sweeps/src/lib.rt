@@ -5,13 +5,13 @@
 ghost use Rattle.std.specs.Prelude.{◌≡◌, ◌+◌, ◌<◌, ◌≤◌, ◌^◌, true, false, ltb, length};
 ghost use Rattle.le.specs.Le.{Below};
 ghost use Rattle.le.specs.Rows.{Holds, span};
-ghost use Rattle.form.specs.Stored.{graph_of, Stored};
+ghost use Rattle.form.specs.Drawn.{graph_in};
 ghost use Rattle.choice.specs.Arcs.{bump};
 ghost use Rattle.choice.specs.Calls.{room_cycle_breaking_nodes_scanning};
 ghost use Rattle.marks.specs.Tables.{most_nodes, most_vertices, most_edges, Alike, some_left, must_go, visited, visited_of};
 ghost use Rattle.sweeps.specs.Sweeps.{Swept, Rests};
 
-use form::{EdgeAt, Sizes};
+use form::{Drawing, EdgeAt};
 use le::Row;
 
 // A list of nodes has at most so many blocks of equal length. A hint is the number of a block of the sources, and so many times that of one of the targets, in each of which a
@@ -28,11 +28,7 @@ fn block_left(room: &[u8], src: &[u8], r: Row, first: usize, count: usize, k: us
     if count <= start {
         return false;
     }
-    let rest = count - start;
-    if rest <= size {
-        return marks::some_left(room, src, r, first + start, rest);
-    }
-    marks::some_left(room, src, r, first + start, size)
+    marks::some_left(room, src, r, first + start, size.min(count - start))
 }
 
 // Whether the edge that is vertex v is seen at once to stay: it has gone before, or a node remains in each of the two blocks that the hint names. The hint may be any number.
@@ -45,10 +41,8 @@ fn is_held(room: &[u8], src: &[u8], r: Row, e: EdgeAt, v: usize, hint: u8) -> bo
         return true;
     }
     let h = hint as usize;
-    if !block_left(room, src, r, e.first, e.sources, h % BLOCKS) {
-        return false;
-    }
-    block_left(room, src, r, e.first + e.sources, e.targets, h / BLOCKS)
+    block_left(room, src, r, e.first, e.sources, h % BLOCKS)
+        && block_left(room, src, r, e.first + e.sources, e.targets, h / BLOCKS)
 }
 
 // The number of the first block in which one of these nodes remains; 0 where there is none.
@@ -56,12 +50,9 @@ fn seek(room: &[u8], src: &[u8], r: Row, first: usize, count: usize) -> usize
     requires { Holds src.now r (first + count) × Below most_nodes (span src.now r first count) × (room_cycle_breaking_nodes_scanning ≤ length room.now) }
     ensures { result < 16 }
 {
-    for k in 0..BLOCKS {
-        if block_left(room, src, r, first, count, k) {
-            return k;
-        }
-    }
-    0
+    (0..BLOCKS)
+        .find(|k| block_left(room, src, r, first, count, *k))
+        .unwrap_or(0)
 }
 
 // Writes the hint of edge i.
@@ -100,44 +91,46 @@ pub struct Gone {
     pub edges: usize,
 }
 
-// What has gone, with k vertices more, the first of which is an edge.
-fn with(g: Gone, k: usize) -> Gone
-    requires { (g.all + k < 2 ^ 32) × (g.edges < 2 ^ 32) }
-    ensures { (result.all ≡ g.all + k) × (result.edges ≡ g.edges + bump (ltb 0 k) 0) }
-{
-    if k == 0 {
-        return g;
-    }
-    Gone {
-        all: g.all + k,
-        edges: g.edges + 1,
+impl Gone {
+    // With k vertices more, the first of which is an edge.
+    fn with(self, k: usize) -> Gone
+        requires { (self.all + k < 2 ^ 32) × (self.edges < 2 ^ 32) }
+        ensures { (result.all ≡ self.all + k) × (result.edges ≡ self.edges + bump (ltb 0 k) 0) }
+    {
+        if k == 0 {
+            return self;
+        }
+        Gone {
+            all: self.all + k,
+            edges: self.edges + 1,
+        }
     }
 }
 
 // One sweep over the edges.
-fn sweep(room: &mut [u8], src: &[u8], z: Sizes) -> Gone
-    requires { Stored src.now z × (room_cycle_breaking_nodes_scanning ≤ length room.old) }
-    ensures { Swept (graph_of src.now) room.old room.new z.edges result.all result.edges }
+fn sweep(room: &mut [u8], drawing: Drawing<'_>) -> Gone
+    requires { room_cycle_breaking_nodes_scanning ≤ length room.old }
+    ensures { Swept (graph_in drawing.entry) room.old room.new drawing.entry.sizes.edges result.all result.edges }
 {
-    let r = form::body_row(z);
+    let r = drawing.body();
     let mut k: usize = 0;
     let mut gone = Gone { all: 0, edges: 0 };
-    for i in 0..z.edges {
-        let e = form::edge_at(src, r, k);
-        gone = with(gone, visit_held(room, src, r, e, z.nodes + i, i));
+    for i in 0..drawing.sizes.edges {
+        let e = form::edge_at(drawing.src, r, k);
+        gone = gone.with(visit_held(room, drawing.src, r, e, drawing.sizes.nodes + i, i));
         k = e.end;
     }
     gone
 }
 
 // Sweeps until no node goes in one: only a node that goes can make an edge loose. Answered is how many vertices went.
-pub fn settle(room: &mut [u8], src: &[u8], z: Sizes) -> usize
-    requires { Stored src.now z × (room_cycle_breaking_nodes_scanning ≤ length room.old) }
-    ensures { Rests (graph_of src.now) room.old room.new result }
+pub fn settle(room: &mut [u8], drawing: Drawing<'_>) -> usize
+    requires { room_cycle_breaking_nodes_scanning ≤ length room.old }
+    ensures { Rests (graph_in drawing.entry) room.old room.new result }
 {
     let mut gone: usize = 0;
     loop {
-        let swept = sweep(room, src, z);
+        let swept = sweep(room, drawing);
         gone += swept.all;
         if swept.all == swept.edges {
             break;

@@ -5,6 +5,7 @@
 ghost use Rattle.std.specs.Prelude.{◌≡◌, [], ◌++◌, ◌+◌, ◌<◌, ◌≤◌, length, take, true, Some, IfOk};
 ghost use Rattle.std.specs.Io.KnownBytes.{Consumes, IsAtEnd};
 ghost use Rattle.io.specs.Counts.{IsPrefixLen};
+ghost use Rattle.form.specs.Form.{meant_by};
 ghost use Rattle.text.specs.Text.{Printed, decimal, refused_line};
 
 use form::Refusal;
@@ -43,11 +44,10 @@ pub fn put_field(out: &mut [u8], at: usize, word: &[u8], n: usize) -> usize
 // A refusal as the one line of a program's output.
 pub fn put_refusal(out: &mut [u8], x: Refusal) -> usize
     requires { 29 ≤ length out.old }
-    ensures printed { Printed out.old 0 (refused_line x.no) out.new result }
+    ensures printed { Printed out.old 0 (refused_line (meant_by x).no) out.new result }
     ensures prefix_len { IsPrefixLen result out.new }
 {
-    let no = x.no;
-    let next = put_field(out, 0, b"refused ", no as usize);
+    let next = put_field(out, 0, b"refused ", x.number() as usize);
     put_text(out, next, b"\n")
 }
 

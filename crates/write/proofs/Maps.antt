@@ -12,11 +12,8 @@ use Rattle.graph.specs.Form.{encode}
 use Rattle.graph.specs.Graph.{Graph}
 use Rattle.graph.specs.Versions.{store, fitting}
 use Rattle.graph.proofs.Steps.{never, same_answer, same_refusal, came, stops, goes}
-use Rattle.form.specs.Form.{meant_by, tested}
-use Rattle.form.specs.declared.Refusal.{Refusal}
-use Rattle.form.specs.declared.Step.TheVariants as step
-use Rattle.form.specs.declared.Step.{Step}
-use Rattle.form.proofs.Answers.{test_refused, test_answered}
+use Rattle.form.specs.Form.{tested}
+use Rattle.form.proofs.Answers.{refused_so, answered_so}
 use Rattle.write.proofs.Calls.{next}
 
 -- two steps that are also another call's
@@ -63,17 +60,17 @@ module _ (room map_room : ℕ) (graph : Graph) (map : List ℕ) (count : ℕ) wh
   abbrev form : List ℕ
   form = encode (fitting graph) graph
 
-  module _ (makes : made room (next graph 0) ≡ answered (writing form 0)) {n : ℕ} (long : length map ≡ n) (r : Step) (fits : r ≡ tested (leb n map_room else refusal 10)) where
+  module _ (makes : made room (next graph 0) ≡ answered (writing form 0)) {n : ℕ} (long : length map ≡ n) where
     formed : with_map ≡ onward form
     unfolding made
     formed =
         let t = two_go (store graph) (fit room) (λ (form : List ℕ). writing form 0) onward (writing form 0) makes in
         t.2 ∙ ap onward (ap (λ (m : Result). m.bytes) t.1)
 
-    pub map_short : (q : Refusal) → r ≡ step.Refused q → with_map ≡ refused (meant_by q)
-    map_short q e = formed ∙ stops _ (fit_stop map_room map (meant_by q) (ap (λ (n : ℕ). leb n map_room else refusal 10) long ∙ test_refused _ r fits q e))
+    pub map_short : (r : answer.Refusal) → refused r ≡ tested (leb n map_room else refusal 10) → with_map ≡ refused r
+    map_short r e = formed ∙ stops _ (fit_stop map_room map r (ap (λ (n : ℕ). leb n map_room else refusal 10) long ∙ refused_so _ (leb n map_room else refusal 10) r e))
 
-    pub map_fits : (k : ℕ) → r ≡ step.Number k → with_map ≡ answered (record { a = length form; b = count; bytes = form; map = map })
-    map_fits k e =
-        let t = test_answered _ r fits k e in
+    pub map_fits : answered tt ≡ tested (leb n map_room else refusal 10) → with_map ≡ answered (record { a = length form; b = count; bytes = form; map = map })
+    map_fits e =
+        let t = answered_so _ (leb n map_room else refusal 10) tt e in
         formed ∙ goes _ (fit_go map_room map t.0 (ap (λ (n : ℕ). leb n map_room else refusal 10) long ∙ t.1))

@@ -9,40 +9,19 @@ ghost use Rattle.le.specs.Rows.{Holds, row_at, puts};
 ghost use Rattle.graph.specs.Lists.{range};
 ghost use Rattle.graph.specs.Graph.{largest, sizes_fit};
 ghost use Rattle.graph.specs.Form.{mark};
-ghost use Rattle.form.specs.Form.{counts_of, numbered, Low, body_size};
-ghost use Rattle.write.specs.Write.{counted_as, format_for, fitted, result_size, headed};
+ghost use Rattle.form.specs.Form.{counts_of, told, Low, body_size};
+ghost use Rattle.write.specs.Write.{format_for, fitted, result_size, headed};
 
-use form::{Refusal, Sizes, Step};
+use form::{Refusal, Sizes};
 use le::Row;
 
-// The sizes of a result, with the width of the version in which such a graph is stored.
-pub fn sized(
-    nodes: usize,
-    edges: usize,
-    ports: usize,
-    sources: usize,
-    targets: usize,
-    pairs: usize,
-) -> Sizes
-    ensures { result ≡ fitted (counted_as nodes edges sources targets pairs) ports }
+// The sizes of a result, with the width of the version in which such a graph is stored: whatever width they come with.
+pub fn sized(z: Sizes) -> Sizes
+    ensures { result ≡ fitted (counts_of z) z.ports }
 {
-    let counted = Sizes {
-        width: 0,
-        nodes,
-        edges,
-        ports,
-        sources,
-        targets,
-        pairs,
-    };
     Sizes {
-        width: form::fitting_width(counted),
-        nodes,
-        edges,
-        ports,
-        sources,
-        targets,
-        pairs,
+        width: form::fitting_width(z),
+        ..z
     }
 }
 
@@ -68,18 +47,18 @@ fn form_bytes(y: Sizes) -> usize
 }
 
 // Whether a result of these sizes can be written: 9 it passes a limit, 10 its form is longer than the room of the answer buffer; else the bytes of its form.
-pub fn result_size(y: Sizes, room: usize) -> Step
+pub fn result_size(y: Sizes, room: usize) -> Result<usize, Refusal>
     requires { y ≡ fitted (counts_of y) y.ports }
-    ensures { result ≡ numbered (result_size y room) }
+    ensures { told result ≡ result_size y room }
 {
     if !within_limits(y) {
-        return Step::Refused(Refusal { no: 9, place: 0 });
+        return Err(Refusal::ResultAboveLimit);
     }
     let bytes = form_bytes(y);
     if room < bytes {
-        return Step::Refused(Refusal { no: 10, place: 0 });
+        return Err(Refusal::NoRoom);
     }
-    Step::Number(bytes)
+    Ok(bytes)
 }
 
 // The mark and the version.
@@ -87,9 +66,7 @@ fn put_mark(out: &mut [u8], version: usize)
     requires { (5 ≤ length out.old) × (version < 65536) }
     ensures { out.new ≡ sets out.old 0 (mark ++ bytes 2 version) }
 {
-    out[0] = 79;
-    out[1] = 72;
-    out[2] = 71;
+    out[..3].copy_from_slice(b"OHG");
     le::put2(out, 3, version as u32);
 }
 

@@ -7,50 +7,18 @@ use lib.ListN.{length, set, length-append}
 use lib.Seq.{sets}
 use Rattle.le.specs.Le.{words}
 use Rattle.le.specs.Rows.{span}
-use Rattle.le.proofs.Rows.{holds_less, length_span, span_append}
+use Rattle.le.proofs.Rows.{length_span, span_append}
 use Rattle.graph.specs.Graph.{largest}
 use Rattle.graph.specs.Build.{new_operation}
 use Rattle.graph.specs.Lists.{flat, range}
-use Rattle.graph.proofs.Lists.{length_range}
+use Rattle.graph.proofs.Lists.{length_range, get_d_range}
 use Rattle.ledger.specs.Tables.{log_at, labels_at, edge_labels_at}
 use Rattle.ledger.specs.Ledger.{drawing, Draws, more, ports_of, edge_ports}
 use Rattle.ledger.proofs.Added.{operation_added, draws_as}
 use Rattle.ledger.proofs.Rooms.{ports_then}
 use native.Mathlib.Omega.{arith}
+use Rattle.std.proofs.Common.{rules}
 use Rattle.additions.proofs.add_operation.Goals as goal
-
-pub overflow_mul-half : goal.overflow_mul-half
-overflow_mul-half c = let w = c.requires.sound.0.within in omega arith
-
-pub overflow_add-z : goal.overflow_add-z
-overflow_add-z c = let w = c.requires.sound.0.within in omega arith
-
-pub overflow_add-sources : goal.overflow_add-sources
-overflow_add-sources c = let p = c.requires.sound.1 in omega arith
-
-pub put_words-requires : goal.put_words-requires
-put_words-requires c = let w = c.requires.sound.0.within in let p = c.requires.sound.1 in let q = c.requires.sound.4 in (holds_less c.requires.holds _ (omega arith), omega arith)
-
-pub overflow_add-z-2 : goal.overflow_add-z-2
-overflow_add-z-2 c = let w = c.requires.sound.0.within in omega arith
-
-pub set_word-requires : goal.set_word-requires
-set_word-requires c = let w = c.requires.sound.0.within in let q = c.requires.sound.4 in let e = c.requires.sound.2 in omega arith
-
-pub log_range-requires : goal.log_range-requires
-log_range-requires c = let w = c.requires.sound.0.within in let p = c.requires.sound.3 in let n = c.requires.sound.1 in let q = c.requires.sound.4 in (omega arith, omega arith, omega arith, omega arith)
-
-pub overflow_add-z-3 : goal.overflow_add-z-3
-overflow_add-z-3 c = let p = c.requires.sound.3 in omega arith
-
-pub overflow_add-half : goal.overflow_add-half
-overflow_add-half c = let w = c.requires.sound.0.within in omega arith
-
-pub overflow_add-z-4 : goal.overflow_add-z-4
-overflow_add-z-4 c = let n = c.requires.sound.1 in omega arith
-
-pub log_range-requires-2 : goal.log_range-requires-2
-log_range-requires-2 c = let w = c.requires.sound.0.within in let p = c.requires.sound.3 in let n = c.requires.sound.1 in let q = c.requires.sound.4 in (omega arith, omega arith, omega arith, omega arith)
 
 pub returns : goal.returns
 returns c =
@@ -73,8 +41,12 @@ returns c =
     let at : log_at + 2 * (z.ports + a.sources) ≡ log + 2 * a.sources = omega arith in
     let first : words c.set_word.new.room ≡ Y =
     c.set_word.ensures ∙ ap (λ (X : List ℕ). set X (edge_labels_at + z.edges) a.label) (c.put_words.ensures ∙ ap (sets W (labels_at + z.nodes)) both) in
-    let e : words c.log_range-2.new.room ≡ sets Y log (flat (edge_ports z.edges x y)) =
-    c.log_range-2.ensures ∙ (λ i. sets (c.log_range.ensures i) (at i) (flat (ports_of (2 * z.edges + 1) y)))
+    let firsts = c.log_ports.ensures x (length_range z.nodes a.sources)
+    (λ k id l p. let is : id ≡ z.nodes + k = search rules in is ∙ sym (get_d_range z.nodes a.sources k l)) in
+    let seconds = c.log_ports-2.ensures y (length_range (z.nodes + a.sources) a.targets)
+    (λ k id l p. let is : id ≡ z.nodes + a.sources + k = search rules in is ∙ sym (get_d_range (z.nodes + a.sources) a.targets k l)) in
+    let e : words c.log_ports-2.new.room ≡ sets Y log (flat (edge_ports z.edges x y)) =
+    seconds ∙ (λ i. sets (firsts i) (at i) (flat (ports_of (2 * z.edges + 1) y)))
     ∙ ap (λ (X : List ℕ). sets (sets X log (flat (ports_of (2 * z.edges) x))) (log + 2 * a.sources) (flat (ports_of (2 * z.edges + 1) y))) first
     ∙ ports_then Y log (2 * z.edges) (2 * z.edges + 1) x y a.sources (length_range z.nodes a.sources) in
     let f : sets Y log (flat (edge_ports z.edges (range z.nodes (length s)) (range (z.nodes + length s) (length t)))) ≡ sets Y log (flat (edge_ports z.edges x y)) =

@@ -13,12 +13,6 @@ use Rattle.ledger.proofs.Added.{source_added}
 use native.Mathlib.Omega.{arith}
 use Rattle.additions.proofs.add_source.Goals as goal
 
-pub overflow_mul-edge : goal.overflow_mul-edge
-overflow_mul-edge c = let w = c.requires.0.within in omega arith
-
-pub add_port-requires : goal.add_port-requires
-add_port-requires c = let w = c.requires.0.within in (c.requires.0, c.requires.1, c.requires.2, omega arith, omega arith)
-
 pub returns : goal.returns
 returns c =
     let a = c.args in

@@ -11,7 +11,7 @@ use Rattle.additions.specs.Loaded.{without_edges, loaded_to}
 use Rattle.additions.proofs.load.Given as goal
 
 abbrev pub invariant-loop-i : goal.invariant-loop-i
-invariant-loop-i l = (l.i ≤ l.z.edges) × (l.k ≡ edge_start (graph_of l.src).edges l.i) × Draws (words l.room) (without_edges l.z l.i (l.k - 2 * l.i)) (loaded_to (graph_of l.src) l.i) × (length l.room ≡ length l.initial.room)
+invariant-loop-i l = (l.i ≤ l.drawing.sizes.edges) × (l.k ≡ edge_start (graph_of l.drawing.src.now).edges l.i) × Draws (words l.room) (without_edges l.drawing.sizes l.i (l.k - 2 * l.i)) (loaded_to (graph_of l.drawing.src.now) l.i) × (length l.room ≡ length l.initial.room)
 
 abbrev pub decreases-loop-i : goal.decreases-loop-i
-decreases-loop-i l = l.z.edges - l.i
+decreases-loop-i l = l.drawing.sizes.edges - l.i

@@ -1,7 +1,6 @@
 -- `additions::put_words` meets its contract.
 -- Assumes nothing.
-use mathlib.Core.Logic.{inr}
-use mathlib.Core.Path.{refl, ap, ◌∙◌}
+use mathlib.Core.Path.{ap, ◌∙◌}
 use Prim.Native.Nat.{◌^◌}
 use Rattle.le.specs.Le.{Below, words}
 use Rattle.le.specs.Rows.{span}
@@ -10,9 +9,6 @@ use Rattle.le.proofs.Rows.{length_span, span_below, wide_low}
 use Rattle.ledger.proofs.Rooms.{words_puts}
 use native.Mathlib.Omega.{arith}
 use Rattle.additions.proofs.put_words.Goals as goal
-
-pub copy_numbers-requires : goal.copy_numbers-requires
-copy_numbers-requires c = (record { wide = inr refl; inside = omega arith }, c.requires.0)
 
 pub returns : goal.returns
 returns c =

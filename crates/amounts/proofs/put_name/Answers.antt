@@ -1,20 +1,23 @@
 -- `amounts::put_name` meets its contract.
 -- Assumes nothing.
-use mathlib.Core.Path.{ap, ◌∙◌}
-use mathlib.Core.List.{List}
-use Prim.Native.Nat.{ℕ, ◌+◌, ◌*◌, ◌-◌}
-use native.Mathlib.Omega.{arith}
-use lib.ListN.{take, drop}
-use lib.Seq.{sets}
-use Rattle.amounts.proofs.Names.{names, name_length, name_there}
+use mathlib.Core.List.{List, [], ◌∷◌}
+use mathlib.Core.Path.{◌≡◌, ◌∙◌, sym, subst}
+use Prim.Native.Nat.{ℕ, ◌-◌}
+use lib.ListN.{get_or, get_or-map}
+use denote.Bor.{Bor}
+use Rattle.catalogue.specs.Price.{Kind, kind, catalogue, kind_of}
+use Rattle.text.specs.Text.{ascii, Printed}
 use Rattle.amounts.proofs.put_name.Goals as goal
 
+-- a text of twelve by its index is the bytes by their index
+bytes_at : (a b c d e f g h i j k l none : Bor (List ℕ)) (at : ℕ)
+    → (get_or {A = Bor (List ℕ)} (a ∷ b ∷ c ∷ d ∷ e ∷ f ∷ g ∷ h ∷ i ∷ j ∷ k ∷ l ∷ []) at none).now
+    ≡ get_or (a.now ∷ b.now ∷ c.now ∷ d.now ∷ e.now ∷ f.now ∷ g.now ∷ h.now ∷ i.now ∷ j.now ∷ k.now ∷ l.now ∷ []) at none.now
+bytes_at a b c d e f g h i j k l none at = sym (get_or-map (λ (x : Bor (List ℕ)). x.now) (a ∷ b ∷ c ∷ d ∷ e ∷ f ∷ g ∷ h ∷ i ∷ j ∷ k ∷ l ∷ []) at none)
+
 pub returns-clause-printed : goal.returns-clause-printed
+unfolding kind_of
 returns-clause-printed c =
-    let a = c.args in
-    let label = a.label in
-    let text = (λ i. take (name_length label i) (drop (12 * (label - 1)) names)) ∙ name_there label (omega (arith, c.requires.0.low, c.requires.0.high)) in
-    record {
-      holds = c.copy.ensures ∙ ap (λ (l : List ℕ). sets a.out.now a.at l) text;
-      ends = ap (λ (n : ℕ). a.at + n) (name_length label);
-    }
+    let name : c.as_bytes.result.now ≡ ascii (kind_of c.args.label).name =
+    (c.as_bytes.ensures.value ∙ bytes_at _ _ _ _ _ _ _ _ _ _ _ _ _ (c.args.label - 1)) ∙ get_or-map (λ (k : Kind). ascii k.name) catalogue (c.args.label - 1) (kind "" 0 0 0) in
+    subst (λ (l : List ℕ). Printed c.args.out.now c.args.at l c.put_text.new.out c.put_text.result) name c.put_text.ensures

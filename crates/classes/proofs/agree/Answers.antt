@@ -5,7 +5,6 @@ use Prim.Native.Nat.{◌<◌}
 use native.Mathlib.Nat.{le_antisymm}
 use native.Mathlib.Omega.{arith}
 use borrow.Author.Count.{below_more}
-use borrow.Author.Tests.{not-true, not-false}
 use Rattle.le.specs.Le.{words}
 use Rattle.classes.proofs.Labels.{all_agree, one_differs}
 use Rattle.classes.proofs.agree.Goals as goal
@@ -20,10 +19,10 @@ pub returns-then-not-same_label : goal.returns-then-not-same_label
 returns-then-not-same_label c = λ table t.
     let a = c.args in
     let l = c.loop-v in
-    one_differs a.n (words a.room.now) a.src.now a.r table t l.v (omega arith) (sym c.same_label.ensures ∙ not-true _ c.if-not-same_label.true-raw)
+    one_differs a.n (words a.room.now) a.src.now a.r table t l.v (omega arith) (sym c.same_label.ensures ∙ c.if-not-same_label.true)
 
 pub loop-v-preserved : goal.loop-v-preserved
-loop-v-preserved c = (omega arith, below_more _ _ c.loop-v.invariant.1 (sym c.same_label.ensures ∙ not-false _ c.if-not-same_label.false-raw))
+loop-v-preserved c = (omega arith, below_more _ _ c.loop-v.invariant.1 (sym c.same_label.ensures ∙ c.if-not-same_label.false))
 
 pub returns : goal.returns
 returns c = λ table t.

@@ -7,10 +7,10 @@ use Rattle.le.specs.Le.{words}
 use Rattle.le.proofs.Rows.{holds_less, holds_index}
 use Rattle.classes.proofs.Pairs.{JoinedFrom, pair_ends, pairs_start, pairs_turn}
 use Rattle.classes.proofs.join_all.Goals as goal
-use Rattle.classes.proofs.join_all.Goals.{After-join-arg-1}
+use Rattle.classes.proofs.join_all.Goals.{After-number-w}
 
 -- the ids that were read are the pair's, and nodes
-ends : (c : After-join-arg-1) → (c.number-v.result < c.args.n) × (c.number-w.result < c.args.n)
+ends : (c : After-number-w) → (c.number-v.result < c.args.n) × (c.number-w.result < c.args.n)
 ends c = let a = c.args in
     let l = c.loop-j in
     let k = pair_ends a.src.now a.r a.k a.m (l.j - 1) (omega arith) a.n c.requires.n_in_bounds.3 in
@@ -35,7 +35,7 @@ pub number-w-requires : goal.number-w-requires
 number-w-requires c = holds_less c.requires.n_in_bounds.2 _ (omega arith)
 
 pub join-requires : goal.join-requires
-join-requires c = record { n_in_bounds = (omega (arith, c.requires.n_in_bounds.0), (ends c).0, (ends c).1, c.requires.n_in_bounds.1); falls = c.loop-j.invariant.1.falls }
+join-requires c = let e = (goal.at.join-requires c).After-number-w in record { n_in_bounds = (omega (arith, c.requires.n_in_bounds.0), (ends e).0, (ends e).1, c.requires.n_in_bounds.1); falls = c.loop-j.invariant.1.falls }
 
 pub loop-j-preserved : goal.loop-j-preserved
 loop-j-preserved c =

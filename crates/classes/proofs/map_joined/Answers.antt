@@ -2,69 +2,51 @@
 -- Assumes nothing.
 use mathlib.Core.Path.{sym, ◌∙◌}
 use native.Mathlib.Omega.{arith}
-use borrow.Author.Tests.{not-true, not-false}
 use Rattle.le.specs.Le.{words}
 use Rattle.le.proofs.Rows.{holds_less, at_row}
+use Rattle.form.proofs.Drawn.{stored_in}
 use Rattle.form.proofs.Stored.{stored_rows}
+use Rattle.classes.specs.Forest.{Falls, Names}
+use Rattle.form.specs.Drawn.{graph_in}
+use Rattle.graph.specs.Merge.{classes}
 use Rattle.classes.proofs.Maps.{pair_ids_below, map_named, map_falls, map_differs, map_made}
 use Rattle.classes.proofs.map_joined.Goals as goal
+use Rattle.classes.proofs.map_joined.Goals.{After-find_leaders}
 
-pub overflow_mul-pairs : goal.overflow_mul-pairs
-overflow_mul-pairs c = let low = (stored_rows c.requires.0).low in omega arith
+-- the table that was found names the classes
+tabled : (c : After-find_leaders) → Names c.args.drawing.sizes.nodes (classes (graph_in c.args.drawing)) (words c.find_leaders.new.room)
+tabled c = map_named c.args.drawing _ c.body.ensures _ (omega (arith, c.lists.ensures.0)) _ c.find_leaders.ensures
 
-pub overflow_add-pairs : goal.overflow_add-pairs
-overflow_add-pairs c = let low = (stored_rows c.requires.0).low in omega arith
-
-pub overflow_add-pairs-2 : goal.overflow_add-pairs-2
-overflow_add-pairs-2 c = let low = (stored_rows c.requires.0).low in omega arith
-
-pub overflow_add-pairs-3 : goal.overflow_add-pairs-3
-overflow_add-pairs-3 c = let low = (stored_rows c.requires.0).low in omega arith
-
-pub body_row-requires : goal.body_row-requires
-body_row-requires c = (stored_rows c.requires.0).low
+falls : (c : After-find_leaders) → Falls c.args.drawing.sizes.nodes (words c.find_leaders.new.room)
+falls c = map_falls c.args.drawing _ c.body.ensures _ (omega (arith, c.lists.ensures.0)) _ c.find_leaders.ensures
 
 pub find_leaders-requires : goal.find_leaders-requires
 find_leaders-requires c =
-    let h = stored_rows c.requires.0 in
-    let low = h.low in
-    let e = c.body_row.ensures in (
-      c.requires.1,
-      omega arith,
-      at_row e (holds_less h.body_held _ (omega arith)),
-      pair_ids_below c.args.src.now c.args.z c.requires.0 _ e,
+    let h = stored_rows (stored_in c.args.drawing) in
+    let e = c.body.ensures in (
+      c.requires,
+      omega (arith, c.args.drawing.few),
+      at_row e (holds_less h.body_held _ (omega (arith, c.lists.ensures.0))),
+      pair_ids_below c.args.drawing _ e _ (omega (arith, c.lists.ensures.0)),
     )
 
-pub label_row-requires : goal.label_row-requires
-label_row-requires c = (stored_rows c.requires.0).low
-
 pub agree-requires : goal.agree-requires
-agree-requires c =
-    let h = stored_rows c.requires.0 in
-    let f = c.find_leaders in record { n_in_bounds = (omega arith, at_row c.label_row.ensures (holds_less h.labels_held _ (omega arith))); falls = map_falls c.args.src.now c.args.z c.requires.0 _ c.body_row.ensures (words f.new.room) f.ensures }
+agree-requires c = record {
+  n_in_bounds = (omega arith, at_row c.labels.ensures (holds_less (stored_rows (stored_in c.args.drawing)).labels_held _ (omega arith)));
+  falls = falls (goal.at.agree-requires c).After-find_leaders;
+}
 
 pub returns-then-not-agree : goal.returns-then-not-agree
 returns-then-not-agree c =
-    let b = c.args.src.now in
-    let f = c.find_leaders in
-    let X = words f.new.room in
-    let e = c.body_row.ensures in
-    map_differs b c.args.z c.requires.0 _ e X f.ensures _ c.label_row.ensures
-    (sym (not-true _ c.if-not-agree.true-raw) ∙ c.agree.ensures _ (map_named b c.args.z c.requires.0 _ e X f.ensures)) _
+    map_differs c.args.drawing _ c.body.ensures _ (omega (arith, c.lists.ensures.0)) _ c.find_leaders.ensures _ c.labels.ensures
+    (sym c.if-not-agree.true ∙ c.agree.ensures _ (tabled (goal.at.returns-then-not-agree c).After-find_leaders)) _
 
 pub number_classes-count-requires : goal.number_classes-count-requires
-number_classes-count-requires c =
-    let low = (stored_rows c.requires.0).low in
-    let f = c.find_leaders in
-    record { n_in_bounds = (omega arith, omega arith); falls = map_falls c.args.src.now c.args.z c.requires.0 _ c.body_row.ensures (words f.new.room) f.ensures }
+number_classes-count-requires c = record { n_in_bounds = (omega arith, omega (arith, c.args.drawing.few)); falls = falls (goal.at.number_classes-count-requires c).After-find_leaders }
 
 pub returns : goal.returns
 returns c =
-    let b = c.args.src.now in
-    let f = c.find_leaders in
-    let X = words f.new.room in
-    let e = c.body_row.ensures in
-    let t = map_named b c.args.z c.requires.0 _ e X f.ensures in
+    let t = tabled (goal.at.returns c).After-find_leaders in
     let k = c.number_classes-count.ensures _ t in
-    map_made b c.args.z c.requires.0 _ e X f.ensures _ c.label_row.ensures
-    (sym (not-false _ c.if-not-agree.false-raw) ∙ c.agree.ensures _ t) _ _ k.0 k.1
+    map_made c.args.drawing _ c.body.ensures _ (omega (arith, c.lists.ensures.0)) _ c.find_leaders.ensures _ c.labels.ensures
+    (sym c.if-not-agree.false ∙ c.agree.ensures _ t) _ _ k.0 k.1

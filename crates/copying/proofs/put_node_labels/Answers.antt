@@ -1,5 +1,6 @@
 -- `copying::put_node_labels` meets its contract.
 -- Assumes nothing.
+use Rattle.form.proofs.Drawn.{stored_in}
 use mathlib.Core.Path.{refl, sym, ap, ◌∙◌}
 use Rattle.form.specs.Form.{labels_of}
 use Rattle.form.proofs.Stored.{stored_rows}
@@ -10,23 +11,20 @@ use Rattle.copying.proofs.Ready.{plain, plain_nodes}
 use native.Mathlib.Omega.{arith}
 use Rattle.copying.proofs.put_node_labels.Goals as goal
 
-pub label_row-from-requires : goal.label_row-from-requires
-label_row-from-requires c = (stored_rows c.requires.0.stored).low
-
 pub copy_numbers-requires : goal.copy_numbers-requires
 copy_numbers-requires c =
-    let st = c.requires.0.stored in (
-      rw c.label_row-to.ensures (holds_less c.requires.2 _ (omega (arith, plain_nodes st c.if-z-eq0.true refl))),
-      rw c.label_row-from.ensures (holds_less (stored_rows st).labels_held _ (omega arith)),
+    let st = stored_in c.args.drawing in (
+      rw c.label_row-to.ensures (holds_less c.requires.2 _ (omega (arith, plain_nodes c.args.drawing c.if-z-eq0.true refl))),
+      rw c.labels-from.ensures (holds_less (stored_rows st).labels_held _ (omega arith)),
     )
 
 pub returns-then-z-eq0 : goal.returns-then-z-eq0
 returns-then-z-eq0 c =
-    let b = c.args.src.now in
+    let b = c.args.drawing.src.now in
     let out = c.args.out.now in
-    let st = c.requires.0.stored in
-    c.copy_numbers.ensures ∙ (λ i. puts out (c.label_row-to.ensures i) 0 (span b (c.label_row-from.ensures i) 0 c.args.z.nodes))
-    ∙ ap (puts out (labels_of c.args.y) 0) ((stored_rows st).labels ∙ ap (λ (g : Graph). g.labels) (sym (plain st c.if-z-eq0.true)))
+    let st = stored_in c.args.drawing in
+    c.copy_numbers.ensures ∙ (λ i. puts out (c.label_row-to.ensures i) 0 (span b (c.labels-from.ensures i) 0 c.args.drawing.sizes.nodes))
+    ∙ ap (puts out (labels_of c.args.y) 0) ((stored_rows st).labels ∙ ap (λ (g : Graph). g.labels) (sym (plain c.args.drawing c.if-z-eq0.true)))
 
 pub returns : goal.returns
 returns c = c.put_class_labels.ensures.stored

@@ -8,7 +8,7 @@ use Rattle.le.specs.Rows.{span, puts}
 use Rattle.copying.proofs.put_renamed_lists.Given as goal
 
 abbrev pub invariant-loop-i : goal.invariant-loop-i
-invariant-loop-i l = (l.i ≤ l.i-end) × (l.out ≡ puts l.initial.out l.to l.k (looked (words l.room) (span l.src l.from l.j l.i)))
+invariant-loop-i l = (l.i ≤ l.i-end) × (l.out ≡ puts l.initial.out l.to l.k (looked (words l.room) (span l.drawing.src.now l.from l.j l.i)))
 
 abbrev pub decreases-loop-i : goal.decreases-loop-i
 decreases-loop-i l = l.i-end - l.i

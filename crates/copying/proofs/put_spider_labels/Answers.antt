@@ -7,15 +7,12 @@ use native.Mathlib.Nat.{le_antisymm}
 use lib.ListN.{length, replicate, length-replicate, replicate-append-replicate}
 use Rattle.graph.specs.Graph.{spider}
 use Rattle.le.specs.Rows.{puts}
-use Rattle.le.proofs.Rows.{holds_less, holds_same, holds_index, length_puts, puts_none, puts_append}
+use Rattle.le.proofs.Rows.{holds_less, holds_same, length_puts, puts_none, puts_append}
 use native.Mathlib.Omega.{arith}
 use Rattle.copying.proofs.put_spider_labels.Goals as goal
 
 pub loop-i-init : goal.loop-i-init
 loop-i-init c = (omega arith, sym (puts_none _ c.args.r c.args.k))
-
-pub overflow_add-k : goal.overflow_add-k
-overflow_add-k c = omega (arith, holds_index c.requires)
 
 pub put_number-requires : goal.put_number-requires
 put_number-requires c =

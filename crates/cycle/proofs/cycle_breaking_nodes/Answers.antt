@@ -1,105 +1,64 @@
 -- `cycle::cycle_breaking_nodes` meets its contract.
 -- Assumes nothing.
-use mathlib.Core.Path.{◌≡◌, sym, ◌∙◌, subst}
-use Prim.Native.Nat.{ℕ, ◌≤◌}
+use mathlib.Core.Path.{sym, ◌∙◌, subst}
+use Prim.Native.Nat.{ℕ}
 use native.Mathlib.Omega.{arith}
 use lib.ListN.{length}
 use Rattle.choice.specs.Calls.{listing, room_cycle_breaking_nodes, cycle_broken, cycle_breaking_nodes_call}
 use Rattle.choice.specs.Drawing.{chosen}
 use Rattle.form.specs.Form.{Gives}
-use Rattle.form.specs.Stored.{stored_of, graph_of, format_of, Stored}
+use Rattle.form.specs.Stored.{format_of}
 use Rattle.graph.specs.Answer.{Answer, Result}
 use Rattle.graph.specs.Graph.{Graph}
 use Rattle.graph.specs.Versions as versions
 use Rattle.le.specs.Rows.{span}
-use Rattle.form.proofs.Answers.{room_enough}
+use Rattle.form.proofs.Answers.{room_enough, gives_passed}
 use Rattle.form.proofs.Pairless.{room_short, graph_unread, graph_paired, graph_pairless}
-use Rattle.form.proofs.Answers.{gives_refused}
-use Rattle.form.proofs.Stored.{stored, stored_rows}
-use Rattle.le.proofs.Numbers.{below_each}
+use Rattle.form.proofs.Stored.{stored_bytes, stored_rows}
 use Rattle.cycle.proofs.Begin.{drawn}
 use Rattle.cycle.proofs.Calls.{keeping_nothing}
+use Rattle.form.proofs.Drawn.{stored_in, at_source}
 use Rattle.cycle.proofs.cycle_breaking_nodes.Goals as goal
-use Rattle.cycle.proofs.cycle_breaking_nodes.Goals.{After-choose-arg-3-1, After-refusal-in_default-pairs, After-slice_known-4-1}
 
 -- what follows 8
 abbrev next : ℕ → versions.StoredGraph → Graph → Answer Result
 next room s g = listing s.format room (chosen g)
 
--- the form that was read
-form : (c : After-refusal-in_default-pairs) → Stored c.args.src.now c.in-Sized.z
-form c = let b = c.args.src.now in
-    let r = c.read-graph in
-    stored b r.result r.ensures (below_each 256 b (λ i l. omega (arith, c.type_inv.src i))) c.in-Sized.z c.in-Sized.is
-
--- the form that was read
-form_2 : (c : After-choose-arg-3-1) → Stored c.args.src.now c.in-Sized.z
-form_2 c = let b = c.args.src.now in
-    let r = c.read-graph in
-    stored b r.result r.ensures (below_each 256 b (λ i l. omega (arith, c.type_inv.src i))) c.in-Sized.z c.in-Sized.is
-
--- the room is long enough
-long : (c : After-choose-arg-3-1) → room_cycle_breaking_nodes ≤ length c.args.room.now
-long c = let w = c.work_room-lent in
-    room_enough room_cycle_breaking_nodes _ w.result w.ensures _ c.in-Number.is
-
--- the form that was read
-form_3 : (c : After-slice_known-4-1) → Stored c.args.src.now c.in-Sized.z
-form_3 c = let b = c.args.src.now in
-    let r = c.read-graph in
-    stored b r.result r.ensures (below_each 256 b (λ i l. omega (arith, c.type_inv.src i))) c.in-Sized.z c.in-Sized.is
-
--- no refusal was met
-whole : (c : After-slice_known-4-1) → let a = c.args in let b = a.src.now in
-    cycle_breaking_nodes_call b (length a.list.now) (length a.room.now) ≡ next (length a.list.now) (stored_of b) (graph_of b)
+pub returns-in_err-work_room : goal.returns-in_err-work_room
 unfolding cycle_broken
-whole c = let a = c.args in
-    let w = c.work_room-lent in
-    let p = c.unpaired-pairs in
-    graph_pairless a.src.now room_cycle_breaking_nodes _ (next (length a.list.now)) w.result w.ensures _ c.in-Number.is
-    (form_3 c) p.result p.ensures _ c.in-Number-pairs.is
-
-pub returns-in_default : goal.returns-in_default
-unfolding cycle_broken
-returns-in_default c =
+returns-in_err-work_room c =
     let a = c.args in
-    let w = c.work_room-lent in
-    let r = c.refusal in
-    gives_refused r.result a.list.now
-    (room_short a.src.now room_cycle_breaking_nodes _ (next (length a.list.now)) w.result w.ensures _ c.in_default.is _ r.ensures)
+    gives_passed _ _ c.from_residual.ensures.1 (room_short a.src.now room_cycle_breaking_nodes _ (next (length a.list.now)) _ c.in_err-work_room.ensures)
 
-pub returns-in_default-graph : goal.returns-in_default-graph
+pub returns-in_err-drawing : goal.returns-in_err-drawing
 unfolding cycle_broken
-returns-in_default-graph c =
+returns-in_err-drawing c =
     let a = c.args in
-    let w = c.work_room-lent in
-    let g = c.read-graph in
-    let r = c.refusal-in_default-graph in
-    gives_refused r.result a.list.now
-    (graph_unread a.src.now room_cycle_breaking_nodes _ (next (length a.list.now)) w.result w.ensures _ c.in-Number.is
-    g.result g.ensures _ c.in_default-graph.is _ r.ensures)
+    gives_passed _ _ c.from_residual-in_err-drawing.ensures.1
+    (graph_unread a.src.now room_cycle_breaking_nodes _ (next (length a.list.now)) c.in_ok-work_room.ensures _ c.in_err-drawing.ensures.sizes)
 
-pub returns-in_default-pairs : goal.returns-in_default-pairs
+pub returns-in_err-unpaired : goal.returns-in_err-unpaired
 unfolding cycle_broken
-returns-in_default-pairs c =
+returns-in_err-unpaired c =
     let a = c.args in
-    let w = c.work_room-lent in
-    let p = c.unpaired-pairs in
-    let r = c.refusal-in_default-pairs in
-    gives_refused r.result a.list.now
-    (graph_paired a.src.now room_cycle_breaking_nodes _ (next (length a.list.now)) w.result w.ensures _ c.in-Number.is (form c)
-    p.result p.ensures _ c.in_default-pairs.is _ r.ensures)
+    let s = stored_bytes c.in_ok-drawing.ensures.sizes c.type_inv.src in
+    gives_passed _ _ c.from_residual-in_err-unpaired.ensures.1
+    (graph_paired a.src.now room_cycle_breaking_nodes _ (next (length a.list.now)) c.in_ok-work_room.ensures s _ c.in_err-unpaired.ensures)
 
 pub choose-requires : goal.choose-requires
 unfolding span
-choose-requires c =
-    let s = form_2 c in
-    record { room_choice_in_bounds = long c; stored = (s, record { wide = (stored_rows s).low.width; inside = omega arith }, tt) }
+choose-requires c = record {
+  room_choice_in_bounds = room_enough room_cycle_breaking_nodes _ c.in_ok-work_room.ensures;
+  kept_ids = (record { wide = (stored_rows (stored_in c.in_ok-drawing.drawing)).low.width; inside = omega arith }, tt);
+}
 
 pub returns : goal.returns
+unfolding cycle_broken
 returns c =
     let a = c.args in
-    let b = a.src.now in
-    let k = c.choose in
-    subst (λ (x : Answer Result). Gives x k.result a.list.now k.new.list)
-    (keeping_nothing (graph_of b) _ _ (drawn (form_3 c)) _ _ (format_of b) (length a.list.now) ∙ sym (whole c)) k.ensures
+    let d = c.in_ok-drawing.drawing in
+    let b = d.src.now in
+    let s = stored_in d in
+    let is = graph_pairless b room_cycle_breaking_nodes _ (next (length a.list.now)) c.in_ok-work_room.ensures s c.in_ok-unpaired.ensures in
+    at_source (λ b. Gives (cycle_breaking_nodes_call b (length a.list.now) (length a.room.now)) c.choose.result a.list.now c.choose.new.list) c.in_ok-drawing.ensures.source
+    (subst (λ (x : Answer Result). Gives x c.choose.result a.list.now c.choose.new.list) (keeping_nothing (drawn d) _ _ (format_of b) (length a.list.now) ∙ sym is) c.choose.ensures)

@@ -1,112 +1,73 @@
 -- `cycle::cycle_breaking_nodes_keeping` meets its contract.
 -- Assumes nothing.
 use mathlib.Core.List.{List}
-use mathlib.Core.Path.{◌≡◌, sym, subst}
-use Prim.Native.Nat.{ℕ, ◌≤◌}
+use mathlib.Core.Path.{sym, subst}
+use Prim.Native.Nat.{ℕ}
 use lib.ListN.{length}
 use Rattle.choice.specs.Calls.{listing, room_cycle_breaking_nodes, cycle_broken_keeping, cycle_breaking_nodes_keeping_call}
 use Rattle.choice.specs.Keeping.{chosen_keeping}
 use Rattle.form.specs.Form.{Gives}
-use Rattle.form.specs.Stored.{stored_of, graph_of, Stored}
 use Rattle.graph.specs.Answer.{Answer, Result, ◌>>=◌}
 use Rattle.graph.specs.Graph.{Graph}
 use Rattle.graph.specs.Versions as versions
-use Rattle.le.specs.Rows.{row_at, span}
-use Rattle.form.proofs.Answers.{room_enough, gives_refused}
+use Rattle.form.proofs.Answers.{room_enough, gives_passed}
 use Rattle.form.proofs.Listed.{ids_given_lem, ids_below}
 use Rattle.form.proofs.Spared.{room_short, graph_unread, list_bad, graph_paired, graph_spared}
 use Rattle.form.proofs.Stored.{stored_bytes, stored_rows}
+use Rattle.form.proofs.Drawn.{stored_in, at_source}
 use Rattle.cycle.proofs.cycle_breaking_nodes_keeping.Goals as goal
-use Rattle.cycle.proofs.cycle_breaking_nodes_keeping.Goals.{After-choose-arg-2-1, After-refusal-in_default-ids, After-refusal-in_default-pairs, After-slice_known-4-1, In-Sized}
 
 -- what follows 8
 abbrev next : ℕ → versions.StoredGraph → List ℕ → Graph → Answer Result
 next room s kept g = chosen_keeping kept g >>= listing s.format room
 
--- the form that was read
-form : (c : In-Sized) → Stored c.args.src.now c.in-Sized.z
-form c = stored_bytes c.read-graph.ensures c.type_inv.src c.in-Sized.is
-
--- the form that was read
-form_2 : (c : After-refusal-in_default-ids) → Stored c.args.src.now c.in-Sized.z
-form_2 c = stored_bytes c.read-graph.ensures c.type_inv.src c.in-Sized.is
-
--- the form that was read
-form_3 : (c : After-refusal-in_default-pairs) → Stored c.args.src.now c.in-Sized.z
-form_3 c = stored_bytes c.read-graph.ensures c.type_inv.src c.in-Sized.is
-
--- the form that was read
-form_4 : (c : After-choose-arg-2-1) → Stored c.args.src.now c.in-Sized.z
-form_4 c = stored_bytes c.read-graph.ensures c.type_inv.src c.in-Sized.is
-
--- the room is long enough
-long : (c : After-choose-arg-2-1) → room_cycle_breaking_nodes ≤ length c.args.room.now
-long c = let w = c.work_room-lent in room_enough room_cycle_breaking_nodes _ w.result w.ensures _ c.in-Number.is
-
--- the kept nodes
-abbrev kept : After-slice_known-4-1 → List ℕ
-kept c = span c.args.kept.now (row_at 0 c.in-Sized.z.width) 0 c.in-Number-ids.count
-
--- the form that was read
-form_5 : (c : After-slice_known-4-1) → Stored c.args.src.now c.in-Sized.z
-form_5 c = stored_bytes c.read-graph.ensures c.type_inv.src c.in-Sized.is
-
--- no refusal was met up to 8
-whole : (c : After-slice_known-4-1) → let a = c.args in
-    cycle_breaking_nodes_keeping_call a.src.now a.kept.now (length a.list.now) (length a.room.now) ≡ next (length a.list.now) (stored_of a.src.now) (kept c) (graph_of a.src.now)
+pub returns-in_err-work_room : goal.returns-in_err-work_room
 unfolding cycle_broken_keeping
-whole c = let a = c.args in
-    let w = c.work_room-lent in
-    let l = c.id_list-ids in
-    let p = c.unpaired-pairs in
-    graph_spared a.src.now a.kept.now room_cycle_breaking_nodes _ (next (length a.list.now)) w.result w.ensures _ c.in-Number.is (form_5 c) l.result l.ensures _ c.in-Number-ids.is p.result p.ensures _ c.in-Number-pairs.is
-
-pub returns-in_default : goal.returns-in_default
-unfolding cycle_broken_keeping
-returns-in_default c =
+returns-in_err-work_room c =
     let a = c.args in
-    let w = c.work_room-lent in
-    gives_refused c.refusal.result a.list.now (room_short a.src.now a.kept.now room_cycle_breaking_nodes _ (next (length a.list.now)) w.result w.ensures _ c.in_default.is _ c.refusal.ensures)
+    gives_passed _ _ c.from_residual.ensures.1 (room_short a.src.now a.kept.now room_cycle_breaking_nodes _ (next (length a.list.now)) _ c.in_err-work_room.ensures)
 
-pub returns-in_default-graph : goal.returns-in_default-graph
+pub returns-in_err-drawing : goal.returns-in_err-drawing
 unfolding cycle_broken_keeping
-returns-in_default-graph c =
+returns-in_err-drawing c =
     let a = c.args in
-    let w = c.work_room-lent in
-    let g = c.read-graph in
-    gives_refused c.refusal-in_default-graph.result a.list.now
-    (graph_unread a.src.now a.kept.now room_cycle_breaking_nodes _ (next (length a.list.now)) w.result w.ensures _ c.in-Number.is g.result g.ensures _ c.in_default-graph.is _ c.refusal-in_default-graph.ensures)
+    gives_passed _ _ c.from_residual-in_err-drawing.ensures.1
+    (graph_unread a.src.now a.kept.now room_cycle_breaking_nodes _ (next (length a.list.now)) c.in_ok-work_room.ensures _ c.in_err-drawing.ensures.sizes)
 
-pub id_list-ids-requires : goal.id_list-ids-requires
-id_list-ids-requires c = (stored_rows (form c)).low.width
+pub id_list-requires : goal.id_list-requires
+id_list-requires c = (stored_rows (stored_in c.in_ok-drawing.drawing)).low.width
 
-pub returns-in_default-ids : goal.returns-in_default-ids
+pub returns-in_err-count : goal.returns-in_err-count
 unfolding cycle_broken_keeping
-returns-in_default-ids c =
+returns-in_err-count c =
     let a = c.args in
-    let w = c.work_room-lent in
-    let l = c.id_list-ids in
-    gives_refused c.refusal-in_default-ids.result a.list.now
-    (list_bad a.src.now a.kept.now room_cycle_breaking_nodes _ (next (length a.list.now)) w.result w.ensures _ c.in-Number.is (form_2 c) l.result l.ensures _ c.in_default-ids.is _ c.refusal-in_default-ids.ensures)
+    let s = stored_bytes c.in_ok-drawing.ensures.sizes c.type_inv.src in
+    gives_passed _ _ c.from_residual-in_err-count.ensures.1
+    (list_bad a.src.now a.kept.now room_cycle_breaking_nodes _ (next (length a.list.now)) c.in_ok-work_room.ensures s _ c.in_err-count.ensures)
 
-pub returns-in_default-pairs : goal.returns-in_default-pairs
+pub returns-in_err-unpaired : goal.returns-in_err-unpaired
 unfolding cycle_broken_keeping
-returns-in_default-pairs c =
+returns-in_err-unpaired c =
     let a = c.args in
-    let w = c.work_room-lent in
-    let l = c.id_list-ids in
-    let p = c.unpaired-pairs in
-    gives_refused c.refusal-in_default-pairs.result a.list.now
-    (graph_paired a.src.now a.kept.now room_cycle_breaking_nodes _ (next (length a.list.now)) w.result w.ensures _ c.in-Number.is (form_3 c) l.result l.ensures _ c.in-Number-ids.is p.result p.ensures _ c.in_default-pairs.is _ c.refusal-in_default-pairs.ensures)
+    let s = stored_bytes c.in_ok-drawing.ensures.sizes c.type_inv.src in
+    gives_passed _ _ c.from_residual-in_err-unpaired.ensures.1
+    (graph_paired a.src.now a.kept.now room_cycle_breaking_nodes _ (next (length a.list.now)) c.in_ok-work_room.ensures s _ c.in_ok-count.ensures _ c.in_err-unpaired.ensures)
 
 pub choose-requires : goal.choose-requires
 choose-requires c =
-    let s = form_4 c in
-    let l = c.id_list-ids in
-    let e = c.in-Number-ids.is in
-    record { room_choice_in_bounds = long c; stored = (s, (ids_given_lem s _ _ l.result l.ensures _ e).there, ids_below s _ _ l.result l.ensures _ e) }
+    let s = stored_in c.in_ok-drawing.drawing in
+    let n = c.in_ok-count in
+    record {
+      room_choice_in_bounds = room_enough room_cycle_breaking_nodes _ c.in_ok-work_room.ensures;
+      kept_ids = ((ids_given_lem s _ _ _ n.ensures).there, ids_below s _ _ _ n.ensures);
+    }
 
 pub returns : goal.returns
+unfolding cycle_broken_keeping
 returns c =
-    let k = c.choose in
-    subst (λ (x : Answer Result). Gives x k.result c.args.list.now k.new.list) (sym (whole c)) k.ensures
+    let a = c.args in
+    let d = c.in_ok-drawing.drawing in
+    let s = stored_in d in
+    let is = graph_spared d.src.now a.kept.now room_cycle_breaking_nodes _ (next (length a.list.now)) c.in_ok-work_room.ensures s _ c.in_ok-count.ensures c.in_ok-unpaired.ensures in
+    at_source (λ b. Gives (cycle_breaking_nodes_keeping_call b a.kept.now (length a.list.now) (length a.room.now)) c.choose.result a.list.now c.choose.new.list) c.in_ok-drawing.ensures.source
+    (subst (λ (x : Answer Result). Gives x c.choose.result a.list.now c.choose.new.list) (sym is) c.choose.ensures)

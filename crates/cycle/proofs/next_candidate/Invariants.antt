@@ -11,8 +11,8 @@ use Rattle.queue.specs.Places.{keys_in}
 use Rattle.cycle.proofs.Turning.{sum}
 use Rattle.cycle.proofs.next_candidate.Given as goal
 
-abbrev pub invariant-loop-top : goal.invariant-loop-top
-invariant-loop-top l = Queued (may (words l.initial.room) l.nodes) (degrees_in (words l.room) l.n) (keys_in (words l.room) queue_at l.m) × Outside queue_at (queue_at + 2 * l.m) (words l.initial.room) (words l.room) × (length l.room ≡ length l.initial.room)
+abbrev pub invariant-loop-c : goal.invariant-loop-c
+invariant-loop-c l = Queued (may (words l.initial.room) l.nodes) (degrees_in (words l.room) l.n) (keys_in (words l.room) queue_at l.m) × Outside queue_at (queue_at + 2 * l.m) (words l.initial.room) (words l.room) × (length l.room ≡ length l.initial.room)
 
-abbrev pub decreases-loop-top : goal.decreases-loop-top
-decreases-loop-top l = sum (keys_in (words l.room) queue_at l.m)
+abbrev pub decreases-loop-c : goal.decreases-loop-c
+decreases-loop-c l = sum (keys_in (words l.room) queue_at l.m)

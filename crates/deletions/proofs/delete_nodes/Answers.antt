@@ -12,12 +12,6 @@ use Rattle.deletions.proofs.Turns.{log_mapped, ids_mapped}
 use native.Mathlib.Omega.{arith}
 use Rattle.deletions.proofs.delete_nodes.Goals as goal
 
-pub make_map-requires : goal.make_map-requires
-make_map-requires c = let w = c.requires.0.within in (c.requires.1, c.requires.2, omega arith, c.requires.3)
-
-pub keep_labels-nodes-requires : goal.keep_labels-nodes-requires
-keep_labels-nodes-requires c = let w = c.requires.0.within in (omega arith, omega arith, omega (arith, c.requires.3, c.make_map.auto.room))
-
 pub keep_pairs-ports-requires : goal.keep_pairs-ports-requires
 keep_pairs-ports-requires c =
     let a = c.args in

@@ -5,14 +5,7 @@ use mathlib.Core.Path.{ap, ◌∙◌}
 use Rattle.le.specs.Le.{words}
 use Rattle.ledger.specs.Left.{mapped}
 use Rattle.deletions.proofs.Turns.{word_goes, word_stays}
-use native.Mathlib.Omega.{arith}
 use Rattle.deletions.proofs.keep_id.Goals as goal
-
-pub overflow_add-x : goal.overflow_add-x
-overflow_add-x c = omega (arith, c.word-x.ensures, c.requires.0)
-
-pub word-new-requires : goal.word-new-requires
-word-new-requires c = omega (arith, c.word-x.ensures, c.requires.0, c.requires.3)
 
 pub returns-then-new : goal.returns-then-new
 returns-then-new c =

@@ -2,23 +2,18 @@
 -- Assumes nothing.
 use mathlib.Core.Bool.{true}
 use mathlib.Core.Logic.{inr}
-use mathlib.Core.Path.{◌≡◌, refl, ◌∙◌, subst}
-use Prim.Native.Nat.{ℕ, ◌+◌}
-use native.Mathlib.Nat.{le_antisymm}
+use mathlib.Core.Path.{◌≡◌, ◌∙◌}
+use Prim.Native.Nat.{◌+◌}
 use lib.ListN.{get_or}
 use Rattle.le.specs.Le.{words}
 use Rattle.le.proofs.Numbers.{below_at}
 use Rattle.le.proofs.Places.{length_words}
 use Rattle.ledger.specs.Tables.{map_size}
 use Rattle.ledger.specs.Ledger.{words_in}
-use Rattle.ledger.specs.Left.{WordsLeft}
 use Rattle.ledger.proofs.Words.{length_words_in, words_at}
-use Rattle.ledger.proofs.Sifting.{words_begun, words_turned}
+use Rattle.ledger.proofs.Sifting.{words_turned}
 use native.Mathlib.Omega.{arith}
 use Rattle.deletions.proofs.keep_ids.Goals as goal
-
-pub loop-k-init : goal.loop-k-init
-loop-k-init c = let a = c.args in (omega arith, words_begun (words a.room.now) true a.off, refl)
 
 pub keep_id-to-requires : goal.keep_id-to-requires
 keep_id-to-requires c =
@@ -35,9 +30,3 @@ loop-k-preserved c =
     let l = c.loop-k in
     let o = c.keep_id-to in
     (omega arith, words_turned (words a.room.now) (words l.room) (words o.new.room) true a.off l.k l.to o.result l.invariant.1 (omega (arith, c.requires.1, c.requires.2, length_words a.room.now)) (omega (arith, c.requires.1)) o.ensures.words o.ensures.next, o.auto.room ∙ l.invariant.2)
-
-pub returns : goal.returns
-returns c =
-    let a = c.args in
-    let l = c.loop-k in
-    subst (λ (k : ℕ). WordsLeft (words a.room.now) (words l.room) true a.off k l.to) (le_antisymm l.invariant.0 c.loop-k-test.false) l.invariant.1

@@ -8,14 +8,7 @@ use Rattle.le.specs.Le.{words}
 use Rattle.graph.specs.Lists.{flat}
 use Rattle.ledger.specs.Left.{first_left, second_left, kept_pair}
 use Rattle.deletions.specs.Sifts.{both_stay}
-use native.Mathlib.Omega.{arith}
 use Rattle.deletions.proofs.keep_pair.Goals as goal
-
-pub first_left-a-requires : goal.first_left-a-requires
-first_left-a-requires c = (omega (arith, c.word.ensures, c.requires.0), c.requires.4)
-
-pub second_left-b-requires : goal.second_left-b-requires
-second_left-b-requires c = (omega (arith, c.word-2.ensures, c.requires.1), c.requires.4)
 
 pub returns : goal.returns
 unfolding kept_pair both_stay

@@ -14,9 +14,6 @@ use Rattle.deletions.proofs.Maps.{none_marked, mapped_by}
 use native.Mathlib.Omega.{arith}
 use Rattle.deletions.proofs.make_map.Goals as goal
 
-pub clear_map-requires : goal.clear_map-requires
-clear_map-requires c = (c.requires.2, c.requires.3)
-
 pub mark-requires : goal.mark-requires
 mark-requires c =
     let a = c.args in
@@ -24,20 +21,17 @@ mark-requires c =
       c.requires.0,
       c.requires.1,
       c.requires.2,
-      omega (arith, c.requires.3, c.clear_map.auto.room),
-      subst (λ (X : List ℕ). Marked X a.n []) (sym c.clear_map.ensures) (none_marked W a.n (omega (arith, c.requires.2, c.requires.3, length_words a.room.now))),
+      omega (arith, c.requires.3, c.clear_words.auto.room),
+      subst (λ (X : List ℕ). Marked X a.n []) (sym c.clear_words.ensures) (none_marked W a.n (omega (arith, c.requires.2, c.requires.3, length_words a.room.now))),
     )
-
-pub number_left-requires : goal.number_left-requires
-number_left-requires c = (c.requires.2, omega (arith, c.requires.3, c.clear_map.auto.room, c.mark.auto.room))
 
 pub returns : goal.returns
 returns c =
     let a = c.args in
     let W = words a.room.now in
     let n = a.n in
-    let o₁ : Outside map_at (map_at + n) W (words c.clear_map.new.room) =
-    subst (λ (X : List ℕ). Outside map_at (map_at + n) W X) (sym c.clear_map.ensures) (outside_sets map_at (map_at + n) W map_at (replicate n 0) (omega arith) (omega (arith, length-replicate {A = ℕ} n 0))) in (
+    let o₁ : Outside map_at (map_at + n) W (words c.clear_words.new.room) =
+    subst (λ (X : List ℕ). Outside map_at (map_at + n) W X) (sym c.clear_words.ensures) (outside_sets map_at (map_at + n) W map_at (replicate n 0) (omega arith) (omega (arith, length-replicate {A = ℕ} n 0))) in (
       mapped_by (words c.mark.new.room) (words c.number_left.new.room) n (span a.s.now a.r 0 a.listed) c.mark.ensures.0 c.number_left.ensures.0,
       outside_trans o₁ (outside_trans c.mark.ensures.1 c.number_left.ensures.1),
     )

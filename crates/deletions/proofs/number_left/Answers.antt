@@ -1,18 +1,13 @@
 -- `deletions::number_left` meets its contract.
 -- Assumes nothing.
-use mathlib.Core.Path.{refl, ◌∙◌, subst}
-use Prim.Native.Nat.{ℕ}
-use native.Mathlib.Nat.{le_antisymm}
+use mathlib.Core.Path.{◌∙◌}
 use Rattle.le.specs.Le.{words}
 use Rattle.le.proofs.Places.{length_words}
 use Rattle.graph.proofs.Kept.{new_id_le}
 use Rattle.deletions.specs.Sifts.{is_marked}
-use Rattle.deletions.proofs.Maps.{Numbering, numbering_start, numbering_turn}
+use Rattle.deletions.proofs.Maps.{numbering_turn}
 use native.Mathlib.Omega.{arith}
 use Rattle.deletions.proofs.number_left.Goals as goal
-
-pub loop-i-init : goal.loop-i-init
-loop-i-init c = let a = c.args in (omega arith, numbering_start (words a.room.now) a.n, refl)
 
 pub number_one-to-requires : goal.number_one-to-requires
 number_one-to-requires c =
@@ -26,10 +21,3 @@ loop-i-preserved c =
     let l = c.loop-i in
     let o = c.number_one-to in
     (omega arith, numbering_turn (words a.room.now) (words l.room) (words o.new.room) a.n l.i l.to o.result (omega (arith, c.requires.0, c.requires.1, length_words a.room.now)) (omega arith) l.invariant.1 o.ensures, o.auto.room ∙ l.invariant.2)
-
-pub returns : goal.returns
-returns c =
-    let a = c.args in
-    let l = c.loop-i in
-    let N = subst (λ (k : ℕ). Numbering (words a.room.now) (words l.room) a.n k l.to) (le_antisymm l.invariant.0 c.loop-i-test.false) l.invariant.1 in
-    (record { each = N.done }, N.frame)

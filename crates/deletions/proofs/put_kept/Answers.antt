@@ -1,6 +1,7 @@
 -- `deletions::put_kept` meets its contract.
 -- Assumes nothing.
 use mathlib.Core.List.{List}
+use mathlib.Core.Logic.{⊎_elim}
 use mathlib.Core.Path.{sym, ap, ◌∙◌}
 use Prim.Native.Nat.{ℕ, ◌+◌}
 use native.Mathlib.Numerals.{add-one}
@@ -14,13 +15,7 @@ use Rattle.deletions.proofs.put_kept.Goals as goal
 pub returns-then-a-eq-GONE : goal.returns-then-a-eq-GONE
 returns-then-a-eq-GONE c =
     let a = c.args in
-    let none = first_goes a.a a.b c.if-a-eq-GONE.true in
-    (ap (λ (l : List (ℕ × ℕ)). sets (words a.room.now) a.at (flat l)) (sym none), next_none a.to _ none)
-
-pub returns-then-b-eq-GONE : goal.returns-then-b-eq-GONE
-returns-then-b-eq-GONE c =
-    let a = c.args in
-    let none = second_goes a.a a.b c.if-b-eq-GONE.true in
+    let none = ⊎_elim (λ e. first_goes a.a a.b e) (λ p. second_goes a.a a.b p.1) c.then-a-eq-GONE.either in
     (ap (λ (l : List (ℕ × ℕ)). sets (words a.room.now) a.at (flat l)) (sym none), next_none a.to _ none)
 
 pub returns : goal.returns

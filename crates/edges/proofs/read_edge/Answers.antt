@@ -1,44 +1,14 @@
 -- `edges::read_edge` meets its contract.
 -- Assumes nothing.
-use mathlib.Core.Path.{◌≡◌, ap, ◌∙◌}
+use mathlib.Core.Path.{ap, ◌∙◌}
 use Prim.Native.Nat.{ℕ, ◌+◌}
 use native.Mathlib.Nat.{mul-le-mul_left}
 use native.Mathlib.Omega.{arith}
 use Rattle.form.specs.Form.{meant}
-use Rattle.le.specs.Le.{number_at}
-use Rattle.edges.specs.declared.Edges.TheVariants.{Next}
+use Rattle.graph.specs.Answer.{answered}
 use Rattle.edges.proofs.Edge.{cut, over, short, whole}
 use Rattle.edges.proofs.Small.{small}
 use Rattle.edges.proofs.read_edge.Goals as goal
-use Rattle.edges.proofs.read_edge.Goals.{After-ids_at-ids, After-ports_at-n, Then-limit-ports, Then-rest-bytes}
-
--- how many entries the edge has
-abbrev entries : After-ports_at-n → ℕ
-entries c = c.ports_at-n.result
-
--- how many entries the edge has
-abbrev entries_2 : Then-limit-ports → ℕ
-entries_2 c = c.ports_at-n.result
-
-counted : (c : Then-limit-ports) → let a = c.args in
-    entries_2 c ≡ number_at a.f.width a.s.now a.at + number_at a.f.width a.s.now (a.at + a.f.width)
-counted c = c.ports_at-n.ensures.0
-
--- how many entries the edge has
-abbrev entries_3 : Then-rest-bytes → ℕ
-entries_3 c = c.ports_at-n.result
-
-counted_2 : (c : Then-rest-bytes) → let a = c.args in
-    entries_3 c ≡ number_at a.f.width a.s.now a.at + number_at a.f.width a.s.now (a.at + a.f.width)
-counted_2 c = c.ports_at-n.ensures.0
-
--- how many entries the edge has
-abbrev entries_4 : After-ids_at-ids → ℕ
-entries_4 c = c.ports_at-n.result
-
-counted_3 : (c : After-ids_at-ids) → let a = c.args in
-    entries_4 c ≡ number_at a.f.width a.s.now a.at + number_at a.f.width a.s.now (a.at + a.f.width)
-counted_3 c = c.ports_at-n.ensures.0
 
 pub overflow_mul-width : goal.overflow_mul-width
 overflow_mul-width c = let l = small c.requires.2 in omega arith
@@ -55,20 +25,20 @@ overflow_add-ports c = let l = small c.requires.2 in omega arith
 pub overflow_mul-bytes : goal.overflow_mul-bytes
 overflow_mul-bytes c =
     let l = small c.requires.2 in
-    omega (arith, mul-le-mul_left (entries c) l.narrow)
+    omega (arith, mul-le-mul_left c.ports_at-n.result l.narrow)
 
 pub returns-then-limit-ports : goal.returns-then-limit-ports
 returns-then-limit-ports c =
     let a = c.args in (
       omega arith,
-      λ label. over (meant a.f) a.s.now a.at a.sum a.bound (omega arith) label (entries_2 c) (counted c) (omega arith) (omega arith),
+      λ label. over (meant a.f) a.s.now a.at a.sum a.bound (omega arith) label c.ports_at-n.result c.ports_at-n.ensures.0 (omega arith) (omega arith),
     )
 
 pub returns-then-rest-bytes : goal.returns-then-rest-bytes
 returns-then-rest-bytes c =
     let a = c.args in (
       tt,
-      λ label. short (meant a.f) a.s.now a.at a.sum a.bound (omega arith) label (entries_3 c) (counted_2 c) (omega arith) (omega arith) (omega arith),
+      λ label. short (meant a.f) a.s.now a.at a.sum a.bound (omega arith) label c.ports_at-n.result c.ports_at-n.ensures.0 (omega arith) (omega arith) (omega arith),
     )
 
 pub returns : goal.returns
@@ -76,7 +46,7 @@ returns c =
     let a = c.args in
     let ids = c.ids_at-ids.result in (
       tt,
-      λ label. ap (λ (at : ℕ). Next (a.sum + entries_4 c) at ids.bound) c.ids_at-ids.ensures.0
-          ∙ whole (meant a.f) a.s.now a.at a.sum a.bound (omega arith) label (entries_4 c) (counted_3 c) (omega arith) (omega arith) (omega arith)
+      λ label. ap (λ (at : ℕ). answered (record { ports = a.sum + c.ports_at-n.result; at = at; bound = ids.bound })) c.ids_at-ids.ensures.0
+          ∙ whole (meant a.f) a.s.now a.at a.sum a.bound (omega arith) label c.ports_at-n.result c.ports_at-n.ensures.0 (omega arith) (omega arith) (omega arith)
           ids.bound c.ids_at-ids.ensures.1,
     )

@@ -2,7 +2,7 @@
 -- Assumes nothing.
 use mathlib.Core.Path.{sym, ap, ◌∙◌}
 use Prim.Native.Nat.{ℕ}
-use Rattle.graph.specs.Graph.{Format, form1, sizes_fit}
+use Rattle.graph.specs.Graph.{Format, sizes_fit}
 use Rattle.graph.proofs.Versions.{fitting_first, fitting_second}
 use Rattle.form.specs.Form.{counts_of}
 use Rattle.form.proofs.fitting_width.Goals as goal

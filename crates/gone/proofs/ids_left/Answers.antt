@@ -8,7 +8,6 @@ use lib.ListN.{length}
 use Rattle.gone.specs.Marks.{marked}
 use Rattle.graph.specs.Delete.{renamed}
 use Rattle.le.specs.Rows.{span}
-use Rattle.le.proofs.Rows.{holds_less, holds_index}
 use Rattle.write.proofs.Grows.{entry_below, count_more}
 use Rattle.gone.proofs.Grows.{one_stays, ids_grow}
 use native.Mathlib.Omega.{arith}
@@ -17,12 +16,6 @@ use Rattle.gone.proofs.ids_left.Goals as goal
 pub loop-i-init : goal.loop-i-init
 unfolding span
 loop-i-init c = (omega arith, omega arith, λ m h. refl)
-
-pub overflow_add-k : goal.overflow_add-k
-overflow_add-k c = omega (arith, holds_index c.requires.0)
-
-pub number-id-requires : goal.number-id-requires
-number-id-requires c = holds_less c.requires.0 _ (omega arith)
 
 pub if_stays-stay-requires : goal.if_stays-stay-requires
 if_stays-stay-requires c =

@@ -8,7 +8,7 @@ use lib.ListN.{length-set}
 use Rattle.gone.specs.Marks.{marked}
 use Rattle.graph.specs.Lists.{among}
 use Rattle.le.specs.Rows.{entry, span}
-use Rattle.le.proofs.Rows.{holds_less, span_next}
+use Rattle.le.proofs.Rows.{span_next}
 use Rattle.write.proofs.Grows.{entry_below}
 use Rattle.gone.proofs.Marks.{cleared, marked_more}
 use native.Mathlib.Omega.{arith}
@@ -27,9 +27,6 @@ unfolding span
 loop-k-init c =
     let a = c.args in
     (omega arith, refl, ap (λ (b : List ℕ). marked b a.count) c.clear.ensures ∙ cleared a.room.now a.count (omega arith))
-
-pub number-id-requires : goal.number-id-requires
-number-id-requires c = holds_less c.requires.1 _ (omega arith)
 
 pub bounds-room-id : goal.bounds-room-id
 bounds-room-id c = omega (arith, listed c)

@@ -10,12 +10,11 @@ use Rattle.graph.specs.Delete.{renamed_pairs}
 use Rattle.graph.specs.Lists.{paired}
 use Rattle.le.specs.Le.{Below}
 use Rattle.le.specs.Rows.{span}
-use Rattle.le.proofs.Rows.{holds_less, holds_index}
 use Rattle.write.proofs.Grows.{span_two}
 use Rattle.gone.proofs.Grows.{pair_stays}
 use native.Mathlib.Omega.{arith}
 use Rattle.gone.proofs.pair_left.Goals as goal
-use Rattle.gone.proofs.pair_left.Goals.{After-if_stays, After-if_stays-2, After-number-b}
+use Rattle.gone.proofs.pair_left.Goals.{After-number-b}
 
 -- both ends are below a bound if the row's are
 ends : (c : After-number-b) (m : ℕ) → Below m (span c.args.src.now c.args.r c.args.k 2) → (c.number-a.result < m) × (c.number-b.result < m)
@@ -23,32 +22,11 @@ ends c m h = let a = c.args in
     let t = subst (Below m) (span_two a.src.now a.r a.k) h in
     (omega (arith, c.number-a.ensures.0, t.0), omega (arith, c.number-b.ensures.0, t.1.0))
 
--- both ends are below a bound if the row's are
-ends_2 : (c : After-if_stays) (m : ℕ) → Below m (span c.args.src.now c.args.r c.args.k 2) → (c.number-a.result < m) × (c.number-b.result < m)
-ends_2 c m h = let a = c.args in
-    let t = subst (Below m) (span_two a.src.now a.r a.k) h in
-    (omega (arith, c.number-a.ensures.0, t.0), omega (arith, c.number-b.ensures.0, t.1.0))
-
--- both ends are below a bound if the row's are
-ends_3 : (c : After-if_stays-2) (m : ℕ) → Below m (span c.args.src.now c.args.r c.args.k 2) → (c.number-a.result < m) × (c.number-b.result < m)
-ends_3 c m h = let a = c.args in
-    let t = subst (Below m) (span_two a.src.now a.r a.k) h in
-    (omega (arith, c.number-a.ensures.0, t.0), omega (arith, c.number-b.ensures.0, t.1.0))
-
-pub number-a-requires : goal.number-a-requires
-number-a-requires c = holds_less c.requires.0 _ (omega arith)
-
-pub overflow_add-k : goal.overflow_add-k
-overflow_add-k c = omega (arith, holds_index c.requires.0)
-
-pub number-b-requires : goal.number-b-requires
-number-b-requires c = holds_less c.requires.0 _ (omega arith)
-
 pub if_stays-requires : goal.if_stays-requires
-if_stays-requires c = let h = ends c _ c.requires.1 in h.1
+if_stays-requires c = (ends (goal.at.if_stays-requires c).After-number-b _ c.requires.1).1
 
 pub if_stays-requires-2 : goal.if_stays-requires-2
-if_stays-requires-2 c = let h = ends_2 c _ c.requires.1 in h.0
+if_stays-requires-2 c = (ends (goal.at.if_stays-requires-2 c).After-number-b _ c.requires.1).0
 
 pub returns : goal.returns
 returns c =
@@ -56,7 +34,7 @@ returns c =
       omega arith,
       λ m h.
           let goes = marked a.room.now m in
-          let less = ends_3 c m h in
+          let less = ends (goal.at.returns c).After-number-b m h in
           let v = c.number-a in
           let w = c.number-b in
           c.if_stays-2.ensures.1 m less.0 ∙ (λ i. cond (goes v.result) 0 (c.if_stays.ensures.1 m less.1 i))

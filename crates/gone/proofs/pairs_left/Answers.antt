@@ -8,7 +8,7 @@ use Rattle.gone.specs.Marks.{marked}
 use Rattle.graph.specs.Delete.{renamed_pairs}
 use Rattle.graph.specs.Lists.{paired}
 use Rattle.le.specs.Rows.{span}
-use Rattle.le.proofs.Rows.{holds_less, holds_index}
+use Rattle.le.proofs.Rows.{holds_less}
 use Rattle.write.proofs.Grows.{part_below, count_more}
 use Rattle.gone.proofs.Grows.{pairs_grow}
 use native.Mathlib.Omega.{arith}
@@ -17,12 +17,6 @@ use Rattle.gone.proofs.pairs_left.Goals as goal
 pub loop-i-init : goal.loop-i-init
 unfolding span
 loop-i-init c = (omega arith, omega arith, λ m h. refl)
-
-pub overflow_mul-i : goal.overflow_mul-i
-overflow_mul-i c = omega (arith, holds_index c.requires.0)
-
-pub overflow_add-k : goal.overflow_add-k
-overflow_add-k c = omega (arith, holds_index c.requires.0)
 
 pub pair_left-stay-requires : goal.pair_left-stay-requires
 pair_left-stay-requires c =

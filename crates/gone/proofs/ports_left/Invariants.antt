@@ -12,8 +12,8 @@ use Rattle.graph.specs.Graph.{edge_entries}
 use Rattle.gone.proofs.ports_left.Given as goal
 
 abbrev pub invariant-loop-i : goal.invariant-loop-i
-invariant-loop-i l = (l.i ≤ l.i-end) × (l.ports ≤ l.k) × (l.k ≡ edge_start (graph_of l.src).edges l.i)
-    × (l.ports ≡ length (edge_entries (map (renamed_edge (marked l.room (length (graph_of l.src).labels))) (take l.i (graph_of l.src).edges))))
+invariant-loop-i l = (l.ports ≤ l.k) × (l.k ≡ edge_start (graph_of l.drawing.src.now).edges l.i)
+    × (l.ports ≡ length (edge_entries (map (renamed_edge (marked l.room (length (graph_of l.drawing.src.now).labels))) (take l.i (graph_of l.drawing.src.now).edges))))
 
 abbrev pub decreases-loop-i : goal.decreases-loop-i
 decreases-loop-i l = l.i-end - l.i

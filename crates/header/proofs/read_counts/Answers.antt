@@ -6,8 +6,7 @@ use native.Mathlib.Nat.{mul-le-mul_right}
 use native.Mathlib.Omega.{arith}
 use borrow.Author.Tests.{not-true, not-false}
 use Rattle.form.specs.Form.{meant, counts_of, sized}
-use Rattle.form.specs.declared.Reading.TheVariants.{Sized}
-use Rattle.graph.specs.Answer.{refused, ◌carrying◌}
+use Rattle.graph.specs.Answer.{refused, answered, ◌carrying◌}
 use Rattle.graph.specs.Graph.{counts_fit}
 use Rattle.graph.specs.Read.{counts_at, read_counts}
 use Rattle.graph.proofs.Verdicts.{header_5}
@@ -69,5 +68,5 @@ returns-then-not-counts_fit c = let a = c.args in sym (ap (header_read a.f.width
 pub returns : goal.returns
 returns c =
     let a = c.args in
-    ap Sized (counts_2 c)
+    ap answered (counts_2 c)
     ∙ sym (ap (header_read a.f.width) (counts_within (meant a.f) a.s.now (omega arith) (tested_2 c ∙ not-false _ c.if-not-counts_fit.false-raw)))

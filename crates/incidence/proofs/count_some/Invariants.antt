@@ -1,7 +1,7 @@
 -- What the loops of `incidence::count_some` keep.
 -- Assumes nothing.
 use mathlib.Core.Path.{◌≡◌}
-use Prim.Native.Nat.{◌+◌, ◌-◌, ◌≤◌}
+use Prim.Native.Nat.{◌-◌, ◌≤◌}
 use lib.ListN.{length, take}
 use Rattle.le.specs.Le.{words}
 use Rattle.removal.specs.Room.{source, form_list}
@@ -9,7 +9,7 @@ use Rattle.incidence.specs.Incidence.{bump_all}
 use Rattle.incidence.proofs.count_some.Given as goal
 
 abbrev pub invariant-loop-j : goal.invariant-loop-j
-invariant-loop-j l = (l.from ≤ l.j) × (l.j ≤ l.to) × (words l.room ≡ bump_all (take (l.j - l.from) (form_list (source l.src l.r) (l.first + l.from) (l.to - l.from) l.side)) (words l.initial.room)) × (length l.room ≡ length l.initial.room)
+invariant-loop-j l = (l.j ≤ l.count) × (words l.room ≡ bump_all (take l.j (form_list (source l.src l.r) l.first l.count l.side)) (words l.initial.room)) × (length l.room ≡ length l.initial.room)
 
 abbrev pub decreases-loop-j : goal.decreases-loop-j
-decreases-loop-j l = l.to - l.j
+decreases-loop-j l = l.count - l.j

@@ -2,7 +2,7 @@
 -- Assumes nothing.
 use mathlib.Core.List.{List}
 use mathlib.Core.Path.{◌≡◌, refl, sym, ap, ◌∙◌, subst}
-use Prim.Native.Nat.{ℕ, ◌+◌, ◌*◌, ◌≤◌}
+use Prim.Native.Nat.{ℕ, ◌+◌, ◌*◌, ◌≤◌, ◌<◌}
 use native.Mathlib.Omega.{arith}
 use lib.ListN.{get_or, set}
 use Rattle.le.specs.Le.{words}
@@ -13,19 +13,12 @@ use Rattle.tables.specs.Tables.{most_ports, lists_at}
 use Rattle.incidence.specs.Incidence.{LaidOut}
 use Rattle.incidence.proofs.Laying.{laid_start, laid_turn, degree_read, sum_next}
 use Rattle.incidence.proofs.lay_out.Goals as goal
-use Rattle.incidence.proofs.lay_out.Goals.{After-set_word-arg-1, After-word-size}
+use Rattle.incidence.proofs.lay_out.Goals.{At-loop-y, After-word-size}
 
 -- the sum so far, and with the next list
-few : (c : After-set_word-arg-1) → let a = c.args in let l = c.loop-y in
-    l.sum + get_or (words a.room.now) (mate l.y) 0 ≤ most_ports
-few c = let a = c.args in
-    let l = c.loop-y in
-    omega (arith, l.invariant.2, sum_apart (λ u. get_or (words a.room.now) (mate u) 0) l.y a.n (omega arith))
-
--- the sum so far, and with the next list
-few_2 : (c : After-word-size) → let a = c.args in let l = c.loop-y in
-    l.sum + get_or (words a.room.now) (mate l.y) 0 ≤ most_ports
-few_2 c = let a = c.args in
+few : (c : At-loop-y) → let a = c.args in let l = c.loop-y in
+    l.y < a.n → l.sum + get_or (words a.room.now) (mate l.y) 0 ≤ most_ports
+few c h = let a = c.args in
     let l = c.loop-y in
     omega (arith, l.invariant.2, sum_apart (λ u. get_or (words a.room.now) (mate u) 0) l.y a.n (omega arith))
 
@@ -47,10 +40,10 @@ unfolding sum_to
 loop-y-init c = let a = c.args in (omega arith, laid_start (words a.room.now), refl, refl)
 
 pub overflow_cast-sum : goal.overflow_cast-sum
-overflow_cast-sum c = omega (arith, few c)
+overflow_cast-sum c = omega (arith, few (goal.at.overflow_cast-sum c).At-loop-y (omega arith))
 
 pub overflow_add-sum : goal.overflow_add-sum
-overflow_add-sum c = omega (arith, size c, few_2 c)
+overflow_add-sum c = omega (arith, size c, few (goal.at.overflow_add-sum c).At-loop-y (omega arith))
 
 pub loop-y-preserved : goal.loop-y-preserved
 loop-y-preserved c =
@@ -63,10 +56,3 @@ loop-y-preserved c =
       sum_next W l.sum l.y c.word-size.result l.invariant.2 (size c),
       c.set_word-in-loop-y.auto.room ∙ c.set_word.auto.room ∙ l.invariant.3,
     )
-
-pub returns : goal.returns
-returns c =
-    let a = c.args in
-    let l = c.loop-y in
-    let e : l.y ≡ a.n = omega arith in
-    subst (LaidOut (words a.room.now) (words l.room)) e l.invariant.1

@@ -1,24 +1,17 @@
 -- `le::clear` meets its contract.
 -- Assumes nothing.
-use mathlib.Core.Path.{refl}
-use native.Mathlib.Nat.{le_antisymm}
+use mathlib.Core.List.{List, ◌++◌}
+use mathlib.Core.Path.{sym, ap, ◌∙◌}
+use Prim.Native.Nat.{ℕ}
 use native.Mathlib.Omega.{arith}
-use lib.ListN.{length-set}
-use Rattle.le.proofs.Tables.{fill_front}
+use lib.ListN.{drop, replicate, length-replicate}
+use lib.Seq.{length-take-le}
+use Rattle.le.proofs.Stores.{sets_front}
 use Rattle.le.proofs.clear.Goals as goal
 
-pub loop-k-init : goal.loop-k-init
-loop-k-init c = (omega arith, refl, refl)
-
-pub loop-k-preserved : goal.loop-k-preserved
-loop-k-preserved c = let l = c.loop-k in
-    let a = c.args in (
-      omega arith,
-      rw l.invariant.1 (fill_front a.d.now l.k 0),
-      simp length-set l.invariant.2,
-    )
-
 pub returns : goal.returns
-returns c = let l = c.loop-k in
-    let e = le_antisymm l.invariant.0 c.loop-k-test.false in
-    rw (← e) l.invariant.1
+returns c = let a = c.args in
+    let zeros = replicate a.n 0 in
+    let long = length-replicate {A = ℕ} a.n 0 in
+    ap (λ (l : List ℕ). l ++ drop a.n a.d.now) (c.fill.ensures.after (λ y e. e) ∙ ap (λ (k : ℕ). replicate k 0) (length-take-le a.n a.d.now c.requires))
+    ∙ ap (λ (k : ℕ). zeros ++ drop k a.d.now) (sym long) ∙ sym (sets_front a.d.now zeros (omega arith))

@@ -2,18 +2,12 @@
 -- Assumes nothing.
 use mathlib.Core.Path.{◌≡◌, sym, ap, ◌∙◌}
 use Prim.Native.Nat.{ℕ, ◌*◌}
-use native.Mathlib.Omega.{arith}
 use lib.ListN.{take, drop}
 use lib.Seq.{sets}
 use Rattle.le.specs.Rows.{place_in}
 use Rattle.le.proofs.Numbers.{below_each}
 use Rattle.le.proofs.Rows.{puts_run}
 use Rattle.le.proofs.copy_numbers.Goals as goal
-
-pub copy-requires : goal.copy-requires
-copy-requires c = let a = c.args in
-    let e : a.n * a.to.width ≡ a.n * a.from.width = ap (λ (w : ℕ). a.n * w) c.if-to-w.true in
-    (omega arith, omega arith)
 
 pub returns-then-to-w : goal.returns-then-to-w
 returns-then-to-w c = let a = c.args in

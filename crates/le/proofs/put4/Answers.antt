@@ -1,18 +1,16 @@
 -- `le::put4` meets its contract.
 -- Assumes nothing.
-use native.Mathlib.Numerals.{add-one, add-two, add-three}
+use mathlib.Core.Path.{ap, ◌∙◌}
+use Prim.Native.Nat.{◌+◌, ◌-◌}
 use native.Mathlib.Omega.{arith}
-use lib.ListN.{length-set}
+use borrow.Rule.Slice.PartMut.{put_mid}
+use Rattle.le.specs.Le.{bytes}
+use Rattle.le.proofs.Numbers.{four_bytes, length_bytes}
+use Rattle.le.proofs.Stores.{put_part}
 use Rattle.le.proofs.put4.Goals as goal
 
-pub bounds-d-at-2 : goal.bounds-d-at-2
-bounds-d-at-2 c = simp length-set (omega arith)
-
-pub bounds-d-at-3 : goal.bounds-d-at-3
-bounds-d-at-3 c = simp length-set (omega arith)
-
-pub bounds-d-at-4 : goal.bounds-d-at-4
-bounds-d-at-4 c = simp length-set (omega arith)
-
 pub returns : goal.returns
-returns c = simp (add-one, add-two, add-three)
+returns c = let a = c.args in
+    let k = a.at + 4 - a.at in
+    ap (put_mid a.at k a.d.now) (c.copy_from_slice.ensures.after ∙ c.to_le_bytes.ensures ∙ four_bytes a.v)
+    ∙ put_part a.d.now a.at k (bytes 4 a.v) (omega arith) (omega (arith, length_bytes 4 a.v))

@@ -4,28 +4,19 @@ use mathlib.Core.List.{◌∷◌, []}
 use mathlib.Core.Path.{refl, ap, ◌∙◌}
 use Prim.Native.Nat.{ℕ, ◌+◌}
 use Rattle.le.specs.Rows.{Holds, puts}
-use Rattle.le.proofs.Rows.{holds_index}
 use Rattle.write.proofs.Results.{put_none}
 use Rattle.gone.proofs.Marks.{stays, goes}
-use native.Mathlib.Omega.{arith}
 use Rattle.left.proofs.put_left_label.Goals as goal
-use Rattle.left.proofs.put_left_label.Goals.{After-number, After-slice_known-2-1}
+use Rattle.left.proofs.put_left_label.Goals.{After-number}
 
 -- the id stays, and there is room for its label
-fits : (c : After-slice_known-2-1) → Holds c.args.out.now c.args.to (c.args.j + 1)
+fits : (c : After-number) → Holds c.args.out.now c.args.to (c.args.j + 1)
 fits c = rw (stays c.args.room.now c.requires.0 c.args.id c.requires.1 c.if-room-id-ne0.false) at c.requires.4
-
--- the id stays, and there is room for its label
-fits_2 : (c : After-number) → Holds c.args.out.now c.args.to (c.args.j + 1)
-fits_2 c = rw (stays c.args.room.now c.requires.0 c.args.id c.requires.1 c.if-room-id-ne0.false) at c.requires.4
 
 pub returns-then-room-id-ne0 : goal.returns-then-room-id-ne0
 returns-then-room-id-ne0 c =
     let a = c.args in
     λ n l. rw (goes a.room.now n a.id l c.if-room-id-ne0.true) put_none
-
-pub overflow_add-result : goal.overflow_add-result
-overflow_add-result c = omega (arith, holds_index (fits c))
 
 pub returns : goal.returns
 returns c =
@@ -34,4 +25,4 @@ returns c =
     (record { stored = c.put_number.ensures ∙ ap (λ (v : ℕ). puts a.out.now a.to a.j (v ∷ [])) c.number.ensures.0; next = refl })
 
 pub put_number-requires : goal.put_number-requires
-put_number-requires c = (fits_2 c, c.number.ensures.1)
+put_number-requires c = (fits (goal.at.put_number-requires c).After-number, c.number.ensures.1)

@@ -5,11 +5,8 @@ use native.Mathlib.Omega.{arith}
 use Rattle.le.specs.Rows.{entry}
 use Rattle.le.specs.declared.Row.{Row}
 use Rattle.le.proofs.Numbers.{below_each}
-use Rattle.links.proofs.Cells.{cells_held, get_d_cells, cell_low}
+use Rattle.links.proofs.Cells.{get_d_cells, cell_low}
 use Rattle.links.proofs.cell.Goals as goal
-
-pub number-requires : goal.number-requires
-number-requires c = let a = c.args in rw c.cell_row.ensures (cells_held a.room.now _ (omega arith))
 
 pub returns : goal.returns
 returns c =

@@ -30,12 +30,6 @@ pub loop-f-init : goal.loop-f-init
 loop-f-init c =
     ([], going_start c.args.nodes c.args.room.now c.cell-f.result _ (starts_at c.requires.1 c.cell-f.result c.cell-f.ensures.0), refl)
 
-pub overflow_add-n : goal.overflow_add-n
-overflow_add-n c = omega (arith, c.loop-f.invariant.1.few)
-
-pub overflow_add-nodes : goal.overflow_add-nodes
-overflow_add-nodes c = omega (arith, inside c)
-
 pub cell-f-requires-in-loop-f : goal.cell-f-requires-in-loop-f
 cell-f-requires-in-loop-f c = inside c
 

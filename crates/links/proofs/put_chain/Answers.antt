@@ -10,34 +10,12 @@ use Rattle.links.specs.Links.{cell_count}
 use Rattle.links.proofs.Chains.{Turned, going_start, going_turn, going_within, going_done, starts_at, puts_before}
 use native.Mathlib.Omega.{arith}
 use Rattle.links.proofs.put_chain.Goals as goal
-use Rattle.links.proofs.put_chain.Goals.{After-cell-f-in-loop-f, After-put_number-arg-1, After-slice_known-in-loop-f-1, In-loop-f}
+use Rattle.links.proofs.put_chain.Goals.{After-cell-f-in-loop-f, In-loop-f}
 
 -- the next fresh node has its cell, and there is room for it
 inside : (c : In-loop-f)
     → (c.args.nodes * 3 + c.loop-f.f < cell_count c.args.room.now) × (1 ≤ c.loop-f.at)
 inside c = let a = c.args in
-    let l = c.loop-f in
-    let h = c.requires.0.1 in
-    let first = c.cell-f in
-    let t = going_turn a.nodes a.room.now first.result l.f l.invariant.0 l.invariant.1 c.loop-f-test.true _ refl in
-    let within = going_within a.nodes a.room.now first.result _ (l.f ∷ l.invariant.0) t.going h.backwards (starts_at h first.result first.ensures.0) in
-    (t.inside, omega (arith, l.invariant.2, within, ap length h.order, c.requires.0.2))
-
--- the next fresh node has its cell, and there is room for it
-inside_2 : (c : After-put_number-arg-1)
-    → (c.args.nodes * 3 + c.loop-f.f < cell_count c.args.room.now) × (1 ≤ c.loop-f.at)
-inside_2 c = let a = c.args in
-    let l = c.loop-f in
-    let h = c.requires.0.1 in
-    let first = c.cell-f in
-    let t = going_turn a.nodes a.room.now first.result l.f l.invariant.0 l.invariant.1 c.loop-f-test.true _ refl in
-    let within = going_within a.nodes a.room.now first.result _ (l.f ∷ l.invariant.0) t.going h.backwards (starts_at h first.result first.ensures.0) in
-    (t.inside, omega (arith, l.invariant.2, within, ap length h.order, c.requires.0.2))
-
--- the next fresh node has its cell, and there is room for it
-inside_3 : (c : After-slice_known-in-loop-f-1)
-    → (c.args.nodes * 3 + c.loop-f.f < cell_count c.args.room.now) × (1 ≤ c.loop-f.at)
-inside_3 c = let a = c.args in
     let l = c.loop-f in
     let h = c.requires.0.1 in
     let first = c.cell-f in
@@ -51,17 +29,6 @@ turned : (c : After-cell-f-in-loop-f)
 turned c = let a = c.args in
     let l = c.loop-f in
     going_turn a.nodes a.room.now c.cell-f.result l.f l.invariant.0 l.invariant.1 c.loop-f-test.true c.cell-f-in-loop-f.result c.cell-f-in-loop-f.ensures.0
-
--- the next fresh node has its cell, and there is room for it
-inside_4 : (c : After-cell-f-in-loop-f)
-    → (c.args.nodes * 3 + c.loop-f.f < cell_count c.args.room.now) × (1 ≤ c.loop-f.at)
-inside_4 c = let a = c.args in
-    let l = c.loop-f in
-    let h = c.requires.0.1 in
-    let first = c.cell-f in
-    let t = going_turn a.nodes a.room.now first.result l.f l.invariant.0 l.invariant.1 c.loop-f-test.true _ refl in
-    let within = going_within a.nodes a.room.now first.result _ (l.f ∷ l.invariant.0) t.going h.backwards (starts_at h first.result first.ensures.0) in
-    (t.inside, omega (arith, l.invariant.2, within, ap length h.order, c.requires.0.2))
 
 pub cell-f-requires : goal.cell-f-requires
 cell-f-requires c = c.requires.0.1.head_held
@@ -78,15 +45,12 @@ pub put_number-requires : goal.put_number-requires
 put_number-requires c =
     let l = c.loop-f in
     let e = l.invariant.2 in (
-      holds_same (holds_less c.requires.1 _ (omega (arith, (inside_2 c).1))) l.out (ap length l.invariant.3 ∙ length_puts c.args.out.now c.args.r l.at l.invariant.0),
+      holds_same (holds_less c.requires.1 _ (omega (arith, (inside (goal.at.put_number-requires c).In-loop-f).1))) l.out (ap length l.invariant.3 ∙ length_puts c.args.out.now c.args.r l.at l.invariant.0),
       omega (arith, l.invariant.1.few, c.cell-f.ensures.1),
     )
 
-pub overflow_add-nodes : goal.overflow_add-nodes
-overflow_add-nodes c = omega (arith, (inside_3 c).0)
-
 pub cell-f-requires-in-loop-f : goal.cell-f-requires-in-loop-f
-cell-f-requires-in-loop-f c = (inside_3 c).0
+cell-f-requires-in-loop-f c = (inside (goal.at.cell-f-requires-in-loop-f c).In-loop-f).0
 
 pub loop-f-smaller : goal.loop-f-smaller
 loop-f-smaller c = (turned c).falls
@@ -95,7 +59,7 @@ pub loop-f-preserved : goal.loop-f-preserved
 loop-f-preserved c =
     let a = c.args in
     let l = c.loop-f in
-    let one = (inside_4 c).1 in
+    let one = (inside (goal.at.loop-f-preserved c).In-loop-f).1 in
     let e = l.invariant.2 in (
       l.f ∷ l.invariant.0,
       (turned c).going,

@@ -1,43 +1,21 @@
 -- `links::put_chains` meets its contract.
 -- Assumes nothing.
-use mathlib.Core.Bool.{Bool, not}
-use mathlib.Core.List.{◌++◌}
+use mathlib.Core.Bool.{not}
+use mathlib.Core.List.{List, ◌++◌}
 use mathlib.Core.Path.{refl, ap, ◌∙◌, subst}
 use Prim.Native.Nat.{ℕ, ◌+◌}
 use native.Mathlib.Nat.{le_antisymm}
 use native.Mathlib.Numerals.{add-one}
 use lib.ListN.{length}
-use Rattle.le.proofs.Rows.{holds_less, holds_same, holds_index}
-use Rattle.links.specs.Links.{itself}
+use Rattle.le.proofs.Rows.{holds_less, holds_same}
 use Rattle.write.specs.Write.{Put}
 use Rattle.write.proofs.Results.{put_none, put_then}
-use Rattle.links.proofs.Spiders.{with_itself, at_most_one, on_side, one_side, sides_before, side_room, side_length, side_chain, row_done}
+use Rattle.links.proofs.Spiders.{with_itself, with_node, node_low, on_side, one_side, sides_before, side_room, side_length, side_chain, row_done}
 use native.Mathlib.Omega.{arith}
 use Rattle.links.proofs.put_chains.Goals as goal
 
-pub overflow_add-a : goal.overflow_add-a
-overflow_add-a c = omega (arith, at_most_one c.args.first, c.chain_length-a.ensures.1)
-
-pub overflow_add-b : goal.overflow_add-b
-overflow_add-b c = omega (arith, at_most_one (not c.args.first), c.chain_length-b.ensures.1)
-
-pub put_two-requires : goal.put_two-requires
-put_two-requires c = (
-  holds_less c.requires.0.4 _ (omega arith),
-  omega (arith, at_most_one c.args.first, c.chain_length-a.ensures.1),
-  omega (arith, at_most_one (not c.args.first), c.chain_length-b.ensures.1),
-)
-
-pub overflow_add-next : goal.overflow_add-next
-overflow_add-next c = omega (arith, holds_index c.requires.0.4)
-
 pub loop-half-init : goal.loop-half-init
 loop-half-init c = (omega arith, refl, refl, refl, λ A B h k. put_none)
-
-pub overflow_add-head-in-loop-half : goal.overflow_add-head-in-loop-half
-overflow_add-head-in-loop-half c =
-    let held = c.requires.0.3.head_held in
-    omega arith
 
 pub put_side-next-requires : goal.put_side-next-requires
 put_side-next-requires c =
@@ -48,7 +26,7 @@ put_side-next-requires c =
     let na = c.chain_length-a.ensures.0 p.0 p.2 in
     let nb = c.chain_length-b.ensures.0 p.1 p.3 in
     let next = (l.invariant.4 p.0 p.1 p.2 p.3).next in
-    let one = ap (λ (here : Bool). length (itself here a.id ++ es)) l.invariant.3 in
+    let one = ap (λ (side : List ℕ). length (side ++ es)) (with_node l.here _ a.id c.then_some-node.result c.then_some-node.ensures l.invariant.3) in
     let room = side_room a.first a.id p.0 p.1 l.half (omega arith) in (
       (
         es,
@@ -56,7 +34,7 @@ put_side-next-requires c =
         l.invariant.2 ∙ side_length l.half p.0 p.1 na nb,
         holds_same (holds_less p.4 _ (omega arith)) _ (l.invariant.1 ∙ c.put_two.auto.out),
       ),
-      c.requires.1,
+      node_low l.here a.id c.then_some-node.result c.then_some-node.ensures c.requires.1,
     )
 
 pub loop-half-preserved : goal.loop-half-preserved
@@ -71,7 +49,8 @@ loop-half-preserved c =
           let na = c.chain_length-a.ensures.0 A h in
           let nb = c.chain_length-b.ensures.0 B k in
           let one = f.ensures (on_side l.half A B) (side_chain l.half (omega arith) (omega arith) h k) (l.invariant.2 ∙ side_length l.half A B na nb) in
-          rw (add-one l.half) (put_then (l.invariant.4 A B h k) (rw l.invariant.3 at one)),
+          let side = with_node l.here _ c.args.id c.then_some-node.result c.then_some-node.ensures l.invariant.3 in
+          rw (add-one l.half) (put_then (l.invariant.4 A B h k) (rw side at one)),
     )
 
 pub returns : goal.returns

@@ -1,11 +1,8 @@
 -- `links::put_spiders` meets its contract.
 -- Assumes nothing.
-use mathlib.Core.Path.{refl, ◌∙◌, subst}
-use Prim.Native.Nat.{ℕ}
-use native.Mathlib.Nat.{le_antisymm}
+use mathlib.Core.Path.{refl, ◌∙◌}
 use Rattle.le.proofs.Rows.{holds_less, holds_same}
-use Rattle.links.specs.Links.{cells, spiders}
-use Rattle.write.specs.Write.{Put}
+use Rattle.links.specs.Links.{cells}
 use Rattle.write.proofs.Results.{put_none, put_then}
 use Rattle.links.proofs.Spiders.{spiders_more, spiders_room}
 use native.Mathlib.Omega.{arith}
@@ -30,10 +27,3 @@ loop-id-preserved c =
     let l = c.loop-id in
     let f = c.put_spider-k in
     (omega arith, f.auto.out ∙ l.invariant.1, λ fresh t. rw (spiders_more a.nodes (cells a.room.now) fresh l.id) (put_then (l.invariant.2 fresh t) (f.ensures fresh t)))
-
-pub returns : goal.returns
-returns c = λ fresh t.
-    let l = c.loop-id in
-    let e = le_antisymm l.invariant.0 c.loop-id-test.false in
-    let a = c.args in
-    subst (λ (n : ℕ). Put a.out.now a.r a.start (spiders a.nodes (cells a.room.now) fresh n) l.out l.k) e (l.invariant.2 fresh t)

@@ -2,15 +2,11 @@
 -- Assumes nothing.
 use mathlib.Core.List.{[], ◌∷◌}
 use mathlib.Core.Path.{ap, ◌∙◌}
-use native.Mathlib.Omega.{arith}
 use Rattle.le.specs.Rows.{puts}
 use Rattle.le.specs.declared.Row.{Row}
 use Rattle.links.specs.Links.{cells}
-use Rattle.links.proofs.Cells.{cells_held, set_cells}
+use Rattle.links.proofs.Cells.{set_cells}
 use Rattle.links.proofs.set_cell.Goals as goal
-
-pub put_number-requires : goal.put_number-requires
-put_number-requires c = (rw c.cell_row.ensures (cells_held _ _ (omega arith)), omega arith)
 
 pub returns : goal.returns
 returns c =

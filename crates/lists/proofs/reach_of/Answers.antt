@@ -26,4 +26,4 @@ returns c =
     let some : 0 < length xs = omega (arith, length_span a.s.now r 0 a.n) in
     let start : place_in r 0 ≡ a.at = omega arith in
     let same : reach xs ≡ reach (numbers a.width a.n (drop a.at a.s.now)) = ap (λ (at : ℕ). reach (numbers a.width a.n (drop at a.s.now))) start in
-    omega (arith, c.above.ensures, c.highest_of-most.ensures, reach_highest xs some)
+    omega (arith, c.highest_of-most.ensures, reach_highest xs some)

@@ -1,16 +1,13 @@
 -- `marks::is_loose` meets its contract.
 -- Assumes nothing.
-use Rattle.std.proofs.Common.{◌%◌, Bool, ◌&&◌, get_or, sym, ap, ◌∙◌, eq-eqb, ne_eqb}
-use Rattle.marks.specs.Tables.{nought, degrees, loose}
+use Rattle.std.proofs.Common.{rules}
+use Rattle.marks.specs.Tables.{loose}
 use Rattle.marks.proofs.is_loose.Goals as goal
 
-pub returns-then-room-v-ne1 : goal.returns-then-room-v-ne1
+pub returns-then-room-v-eq1 : goal.returns-then-room-v-eq1
 unfolding loose
-returns-then-room-v-ne1 c = let a = c.args in sym (ap (λ (b : Bool). b && nought (degrees a.room.now a.v)) (ne_eqb (get_or a.room.now a.v 0 % 2) 1 c.if-room-v-ne1.true))
+returns-then-room-v-eq1 c = search rules
 
-pub returns : goal.returns
+pub returns-else-room-v-eq1 : goal.returns-else-room-v-eq1
 unfolding loose
-returns c =
-    let a = c.args in
-    c.is_nought.ensures ∙ ap nought c.word.ensures
-    ∙ sym (ap (λ (b : Bool). b && nought (degrees a.room.now a.v)) (eq-eqb (get_or a.room.now a.v 0 % 2) 1 c.if-room-v-ne1.false))
+returns-else-room-v-eq1 c = search rules

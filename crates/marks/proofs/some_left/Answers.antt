@@ -1,8 +1,7 @@
 -- `marks::some_left` meets its contract.
 -- Assumes nothing.
-use Rattle.std.proofs.Common.{ℕ, ◌%◌, false, get_or, sym, refl, ap, ◌∙◌, le_antisymm, arith, eq-eqb}
+use Rattle.std.proofs.Common.{ℕ, ◌%◌, get_or, sym, refl, ap, ◌∙◌, le_antisymm, arith, eq-eqb}
 use Rattle.le.specs.Rows.{span}
-use Rattle.le.proofs.Rows.{holds_less, holds_index}
 use Rattle.marks.specs.Tables.{most_nodes, some_left}
 use Rattle.marks.proofs.Loops.{read_low, some_found, none_found}
 use Rattle.marks.proofs.some_left.Goals as goal
@@ -10,12 +9,6 @@ use Rattle.marks.proofs.some_left.Goals as goal
 pub loop-j-init : goal.loop-j-init
 unfolding span
 loop-j-init c = (omega arith, refl)
-
-pub overflow_add-first : goal.overflow_add-first
-overflow_add-first c = omega (arith, holds_index c.requires.0)
-
-pub number-id-requires : goal.number-id-requires
-number-id-requires c = holds_less c.requires.0 _ (omega arith)
 
 pub bounds-room-id : goal.bounds-room-id
 bounds-room-id c =

@@ -4,31 +4,17 @@ use Rattle.std.proofs.Common.{◌≡◌, ℕ, ◌+◌, sym, ap, ◌∙◌, subst
 use Rattle.le.specs.Le.{Below}
 use Rattle.le.specs.Rows.{span}
 use Rattle.le.proofs.Numbers.{below_append}
-use Rattle.le.proofs.Rows.{holds_less, holds_index, span_append}
+use Rattle.le.proofs.Rows.{holds_less, span_append}
 use Rattle.marks.specs.Tables.{most_nodes, shifted_all, less_in, lowered, tested_all, went_of}
 use Rattle.marks.proofs.take_edge.Goals as goal
-use Rattle.marks.proofs.take_edge.Goals.{After-slice_known-4-1}
+use Rattle.marks.proofs.take_edge.Goals.{After-shift_each-2}
 
 -- the room that the nodes are tested in
-same : (c : After-slice_known-4-1) → let a = c.args in
+same : (c : After-shift_each-2) → let a = c.args in
     c.shift_each-2.new.room ≡ lowered (span a.src.now a.r a.e.first a.e.sources) (span a.src.now a.r (a.e.first + a.e.sources) a.e.targets) a.v a.room.now
 unfolding lowered
 same c = let a = c.args in
     c.shift_each-2.ensures ∙ ap (shifted_all less_in (span a.src.now a.r (a.e.first + a.e.sources) a.e.targets)) c.shift_each.ensures
-
-pub shift_each-requires : goal.shift_each-requires
-shift_each-requires c =
-    (holds_less c.requires.holds.0 _ (omega arith), c.requires.below.0, omega (arith, c.requires.holds.2, length-set c.args.room.now c.args.v 0))
-
-pub overflow_add-e : goal.overflow_add-e
-overflow_add-e c = omega (arith, holds_index c.requires.holds.0)
-
-pub shift_each-requires-2 : goal.shift_each-requires-2
-shift_each-requires-2 c =
-    (c.requires.holds.0, c.requires.below.1, omega (arith, c.requires.holds.2, c.shift_each.auto.room, length-set c.args.room.now c.args.v 0))
-
-pub overflow_add-e-2 : goal.overflow_add-e-2
-overflow_add-e-2 c = omega (arith, holds_index c.requires.holds.0)
 
 pub test_each-requires : goal.test_each-requires
 test_each-requires c =
@@ -38,12 +24,9 @@ test_each-requires c =
       omega (arith, c.requires.holds.2, c.shift_each.auto.room, c.shift_each-2.auto.room, length-set a.room.now a.v 0),
     )
 
-pub overflow_add-result : goal.overflow_add-result
-overflow_add-result c = omega (arith, c.test_each.ensures.2, holds_index c.requires.holds.0)
-
 pub returns : goal.returns
 returns c =
     let a = c.args in
     let o = c.test_each in
     let xs = span a.src.now a.r a.e.first (a.e.sources + a.e.targets) in
-    record { value = ap (λ (k : ℕ). 1 + k) (o.ensures.0 ∙ ap (went_of xs) (same c)); room_after = o.ensures.1 ∙ ap (tested_all xs) (same c) }
+    record { value = ap (λ (k : ℕ). 1 + k) (o.ensures.0 ∙ ap (went_of xs) (same (goal.at.returns c).After-shift_each-2)); room_after = o.ensures.1 ∙ ap (tested_all xs) (same (goal.at.returns c).After-shift_each-2) }

@@ -1,15 +1,8 @@
 -- `marks::worth` meets its contract.
 -- Assumes nothing.
-use Rattle.std.proofs.Common.{ℕ, ◌*◌, ◌/◌, ◌%◌, ◌≤◌, Bool, cond, get_or, sym, ap, ◌∙◌, mul-le-mul_right, mul-le-mul_left, arith, eq-eqb, ne_eqb}
+use Rattle.std.proofs.Common.{ℕ, ◌*◌, ◌/◌, ◌%◌, Bool, cond, get_or, sym, ap, ◌∙◌, eq-eqb, ne_eqb}
 use Rattle.marks.specs.Tables.{degrees, worth_in}
 use Rattle.marks.proofs.worth.Goals as goal
-
-pub overflow_mul-score : goal.overflow_mul-score
-overflow_mul-score c =
-    let w = c.word-w.result in
-    let low : w % 65536 ≤ 65535 = omega arith in
-    let high : w / 65536 ≤ 65535 = omega arith in
-    omega (arith, mul-le-mul_right (w / 65536) low, mul-le-mul_left 65535 high)
 
 pub returns-then-room-v-eq-REMAINS : goal.returns-then-room-v-eq-REMAINS
 unfolding worth_in

@@ -3,8 +3,10 @@
 use mathlib.Core.List.{List, ◌∷◌, [], ◌++◌}
 use mathlib.Core.Path.{◌≡◌, sym, ap, ◌∙◌, subst}
 use Prim.Native.Nat.{ℕ, ◌+◌, ◌-◌}
-use native.Mathlib.Nat.{le_antisymm}
+use native.Mathlib.Omega.{arith}
 use lib.ListN.{length, length-append}
+use Rattle.form.specs.declared.EdgeAt.{EdgeAt}
+use Rattle.moved.specs.declared.Renumbered.{Renumbered}
 use Rattle.moved.specs.Places.{gone_in, edge_of}
 use Rattle.form.specs.Form.{body_of}
 use Rattle.graph.specs.Delete.{renamed}
@@ -17,134 +19,73 @@ use Rattle.write.proofs.Results.{put_none}
 use Rattle.write.proofs.Parts.{counts_last}
 use Rattle.write.proofs.Grows.{entry_below, put_length, put_fits, put_more}
 use Rattle.gone.proofs.Grows.{renamed_append, ids_grow}
-use native.Mathlib.Omega.{arith}
 use Rattle.moved.proofs.put_moved_edge.Goals as goal
-use Rattle.moved.proofs.put_moved_edge.Goals.{then-i-e, else-i-e, After-body_row-body, After-put_moved-arg-1, After-put_two-arg-1, After-slice_known-2-1, After-struct_known-1, Joined-i-e}
+use Rattle.moved.proofs.put_moved_edge.Goals.{then-i-e, else-i-e, After-loop-i, After-number-id}
 
 -- the new ids of the first n, of the sources and of the targets
-abbrev ids : After-struct_known-1 → ℕ → List ℕ
-ids c n = renamed (gone_in c.args.z c.args.map.now) (span c.args.src.now (body_of c.args.z) c.args.e.first n)
+module _ (by : Renumbered) (e : EdgeAt) where
+  abbrev ids : ℕ → List ℕ
+  ids n = renamed (gone_in by.drawing.sizes by.map.now) (span by.drawing.src.now (body_of by.drawing.sizes) e.first n)
 
--- the new ids of the first n, of the sources and of the targets
-abbrev ids_2 : After-put_moved-arg-1 → ℕ → List ℕ
-ids_2 c n = renamed (gone_in c.args.z c.args.map.now) (span c.args.src.now (body_of c.args.z) c.args.e.first n)
+  abbrev targets : List ℕ
+  targets = renamed (gone_in by.drawing.sizes by.map.now) (edge_of by.drawing.src.now by.drawing.sizes e).targets
 
-abbrev targets : After-put_moved-arg-1 → List ℕ
-targets c = renamed (gone_in c.args.z c.args.map.now) (edge_of c.args.src.now c.args.z c.args.e).targets
+  lists : ids (e.sources + e.targets) ≡ ids e.sources ++ targets
+  lists =
+      let d = by.drawing in
+      let goes = gone_in d.sizes by.map.now in
+      ap (renamed goes) (span_append d.src.now (body_of d.sizes) e.first e.sources e.targets) ∙ renamed_append goes (edge_of d.src.now d.sizes e).sources (edge_of d.src.now d.sizes e).targets
 
-lists : (c : After-put_moved-arg-1) → ids_2 c (c.args.e.sources + c.args.e.targets) ≡ ids_2 c c.args.e.sources ++ targets c
-lists c = let a = c.args in
-    let goes = gone_in a.z a.map.now in
-    ap (renamed goes) (span_append a.src.now (body_of a.z) a.e.first a.e.sources a.e.targets) ∙ renamed_append goes (edge_of a.src.now a.z a.e).sources (edge_of a.src.now a.z a.e).targets
-
--- room for both counts and both lists
-room : (c : After-put_moved-arg-1) → Holds c.args.out.now c.args.to (c.args.j + 2 + length (ids_2 c (c.args.e.sources + c.args.e.targets)))
-room c = holds_less c.requires.targets_bound.1 _ (omega (arith, ap length (lists c)))
+  -- room for both counts and both lists
+  room : {out : List ℕ} {to : Row} (j : ℕ) → Holds out to (j + length (length (ids e.sources) ∷ length targets ∷ ids e.sources ++ targets)) → Holds out to (j + 2 + length (ids (e.sources + e.targets)))
+  room j h = holds_less h _ (omega (arith, ap length lists))
 
 -- the id that was read is the row's
-read : (c : After-put_moved-arg-1) → c.number-id.result ≡ entry c.args.src.now (body_of c.args.z) (c.args.e.first + c.loop-i.i)
-read c = c.number-id.ensures.0 ∙ ap (λ (r : Row). entry c.args.src.now r (c.args.e.first + c.loop-i.i)) c.body_row-body.ensures
-
--- the new ids of the first n, of the sources and of the targets
-abbrev ids_3 : Joined-i-e → ℕ → List ℕ
-ids_3 c n = renamed (gone_in c.args.z c.args.map.now) (span c.args.src.now (body_of c.args.z) c.args.e.first n)
-
--- the id that was read is the row's
-read_2 : (c : Joined-i-e) → c.number-id.result ≡ entry c.args.src.now (body_of c.args.z) (c.args.e.first + c.loop-i.i)
-read_2 c = c.number-id.ensures.0 ∙ ap (λ (r : Row). entry c.args.src.now r (c.args.e.first + c.loop-i.i)) c.body_row-body.ensures
-
--- the new ids of the first n, of the sources and of the targets
-abbrev ids_4 : After-put_two-arg-1 → ℕ → List ℕ
-ids_4 c n = renamed (gone_in c.args.z c.args.map.now) (span c.args.src.now (body_of c.args.z) c.args.e.first n)
-
-abbrev targets_2 : After-put_two-arg-1 → List ℕ
-targets_2 c = renamed (gone_in c.args.z c.args.map.now) (edge_of c.args.src.now c.args.z c.args.e).targets
-
-lists_2 : (c : After-put_two-arg-1) → ids_4 c (c.args.e.sources + c.args.e.targets) ≡ ids_4 c c.args.e.sources ++ targets_2 c
-lists_2 c = let a = c.args in
-    let goes = gone_in a.z a.map.now in
-    ap (renamed goes) (span_append a.src.now (body_of a.z) a.e.first a.e.sources a.e.targets) ∙ renamed_append goes (edge_of a.src.now a.z a.e).sources (edge_of a.src.now a.z a.e).targets
-
--- room for both counts and both lists
-room_2 : (c : After-put_two-arg-1) → Holds c.args.out.now c.args.to (c.args.j + 2 + length (ids_4 c (c.args.e.sources + c.args.e.targets)))
-room_2 c = holds_less c.requires.targets_bound.1 _ (omega (arith, ap length (lists_2 c)))
+read : (c : After-number-id) → c.number-id.result ≡ entry c.args.by.drawing.src.now (body_of c.args.by.drawing.sizes) (c.args.e.first + c.loop-i.i)
+read c = c.number-id.ensures.0 ∙ ap (λ (r : Row). entry c.args.by.drawing.src.now r (c.args.e.first + c.loop-i.i)) c.body-body.ensures
 
 -- where the sources end and where the targets end
-all : (c : After-put_two-arg-1) → Put c.args.out.now c.args.to (c.args.j + 2) (ids_4 c (c.args.e.sources + c.args.e.targets)) c.loop-i.out c.loop-i.end
-all c = subst (λ (n : ℕ). Put c.args.out.now c.args.to (c.args.j + 2) (ids_4 c n) c.loop-i.out c.loop-i.end) (le_antisymm c.loop-i.invariant.0 c.loop-i-test.false) c.loop-i.invariant.2
+module _ (c : After-loop-i) where
+  all : Put c.args.out.now c.args.to (c.args.j + 2) (ids c.args.by c.args.e (c.args.e.sources + c.args.e.targets)) c.loop-i.out c.loop-i.end
+  all =
+      let last : c.loop-i.i ≡ c.args.e.sources + c.args.e.targets = omega (arith, c.loop-i-test.false) in
+      subst (λ (n : ℕ). Put c.args.out.now c.args.to (c.args.j + 2) (ids c.args.by c.args.e n) c.loop-i.out c.loop-i.end) last c.loop-i.invariant.1
 
-middle : (c : After-put_two-arg-1) → c.loop-i.middle ≡ c.args.j + 2 + length (ids_4 c c.args.e.sources)
-middle c = c.loop-i.invariant.1 (omega arith)
+  middle : c.loop-i.middle ≡ c.args.j + 2 + length (ids c.args.by c.args.e c.args.e.sources)
+  middle = c.loop-i.invariant.0 (omega (arith, c.loop-i-test.false))
 
-end : (c : After-put_two-arg-1) → c.loop-i.end ≡ c.loop-i.middle + length (targets_2 c)
-end c = omega (arith, (all c).next, middle c, ap length (lists_2 c), length-append (ids_4 c c.args.e.sources) (targets_2 c))
-
--- the new ids of the first n, of the sources and of the targets
-abbrev ids_5 : After-slice_known-2-1 → ℕ → List ℕ
-ids_5 c n = renamed (gone_in c.args.z c.args.map.now) (span c.args.src.now (body_of c.args.z) c.args.e.first n)
-
-abbrev targets_3 : After-slice_known-2-1 → List ℕ
-targets_3 c = renamed (gone_in c.args.z c.args.map.now) (edge_of c.args.src.now c.args.z c.args.e).targets
-
-lists_3 : (c : After-slice_known-2-1) → ids_5 c (c.args.e.sources + c.args.e.targets) ≡ ids_5 c c.args.e.sources ++ targets_3 c
-lists_3 c = let a = c.args in
-    let goes = gone_in a.z a.map.now in
-    ap (renamed goes) (span_append a.src.now (body_of a.z) a.e.first a.e.sources a.e.targets) ∙ renamed_append goes (edge_of a.src.now a.z a.e).sources (edge_of a.src.now a.z a.e).targets
-
--- where the sources end and where the targets end
-all_2 : (c : After-slice_known-2-1) → Put c.args.out.now c.args.to (c.args.j + 2) (ids_5 c (c.args.e.sources + c.args.e.targets)) c.loop-i.out c.loop-i.end
-all_2 c = subst (λ (n : ℕ). Put c.args.out.now c.args.to (c.args.j + 2) (ids_5 c n) c.loop-i.out c.loop-i.end) (le_antisymm c.loop-i.invariant.0 c.loop-i-test.false) c.loop-i.invariant.2
-
-middle_2 : (c : After-slice_known-2-1) → c.loop-i.middle ≡ c.args.j + 2 + length (ids_5 c c.args.e.sources)
-middle_2 c = c.loop-i.invariant.1 (omega arith)
-
-end_2 : (c : After-slice_known-2-1) → c.loop-i.end ≡ c.loop-i.middle + length (targets_3 c)
-end_2 c = omega (arith, (all_2 c).next, middle_2 c, ap length (lists_3 c), length-append (ids_5 c c.args.e.sources) (targets_3 c))
-
--- the new ids of the first n, of the sources and of the targets
-abbrev ids_6 : After-body_row-body → ℕ → List ℕ
-ids_6 c n = renamed (gone_in c.args.z c.args.map.now) (span c.args.src.now (body_of c.args.z) c.args.e.first n)
-
-abbrev targets_4 : After-body_row-body → List ℕ
-targets_4 c = renamed (gone_in c.args.z c.args.map.now) (edge_of c.args.src.now c.args.z c.args.e).targets
-
-lists_4 : (c : After-body_row-body) → ids_6 c (c.args.e.sources + c.args.e.targets) ≡ ids_6 c c.args.e.sources ++ targets_4 c
-lists_4 c = let a = c.args in
-    let goes = gone_in a.z a.map.now in
-    ap (renamed goes) (span_append a.src.now (body_of a.z) a.e.first a.e.sources a.e.targets) ∙ renamed_append goes (edge_of a.src.now a.z a.e).sources (edge_of a.src.now a.z a.e).targets
-
--- room for both counts and both lists
-room_3 : (c : After-body_row-body) → Holds c.args.out.now c.args.to (c.args.j + 2 + length (ids_6 c (c.args.e.sources + c.args.e.targets)))
-room_3 c = holds_less c.requires.targets_bound.1 _ (omega (arith, ap length (lists_4 c)))
+  end : c.loop-i.end ≡ c.loop-i.middle + length (targets c.args.by c.args.e)
+  end = omega (arith, all.next, middle, ap length (lists c.args.by c.args.e), length-append (ids c.args.by c.args.e c.args.e.sources) (targets c.args.by c.args.e))
 
 pub loop-i-init : goal.loop-i-init
 unfolding span
-loop-i-init c = (omega arith, (λ l. let e : c.args.e.sources ≡ 0 = omega arith in omega (arith, ap (λ (n : ℕ). length (ids c n)) e)), put_none)
+loop-i-init c = ((λ l. let e : c.args.e.sources ≡ 0 = omega arith in omega (arith, ap (λ (n : ℕ). length (ids c.args.by c.args.e n)) e)), put_none)
 
 pub put_moved-end-requires : goal.put_moved-end-requires
 put_moved-end-requires c =
     let a = c.args in
     let l = c.loop-i in
-    let goes = gone_in a.z a.map.now in
-    let n = a.e.sources + a.e.targets in (
-      c.requires.mapped.0,
-      entry_below a.z.nodes a.src.now (body_of a.z) a.e.first n c.requires.mapped.2 l.i _ (omega arith) (read c),
-      subst (λ (v : ℕ). Holds l.out a.to (l.end + length (renamed goes (v ∷ [])))) (sym (read c))
-          (put_fits (ids_grow goes a.src.now (body_of a.z) a.e.first n) (omega arith) l.invariant.2 (room c)),
+    let d = a.by.drawing in
+    let goes = gone_in d.sizes a.by.map.now in
+    let n = a.e.sources + a.e.targets in
+    let is = read (goal.at.put_moved-end-requires c).After-number-id in (
+      entry_below d.sizes.nodes d.src.now (body_of d.sizes) a.e.first n c.requires.mapped.1 l.i _ (omega arith) is,
+      subst (λ (v : ℕ). Holds l.out a.to (l.end + length (renamed goes (v ∷ [])))) (sym is)
+          (put_fits (ids_grow goes d.src.now (body_of d.sizes) a.e.first n) (omega arith) l.invariant.1 (room a.by a.e _ c.requires.targets_bound.1)),
     )
 
 pub loop-i-preserved : goal.loop-i-preserved
 loop-i-preserved c =
     let a = c.args in
     let l = c.loop-i in
+    let d = a.by.drawing in
     let p = c.put_moved-end in
-    let goes = gone_in a.z a.map.now in
-    let put = put_more (ids_grow goes a.src.now (body_of a.z) a.e.first (a.e.sources + a.e.targets)) (omega (arith, c.loop-i-test.true)) l.invariant.2
-    (subst (λ (v : ℕ). Put l.out a.to l.end (renamed goes (v ∷ [])) p.new.out p.result) (read_2 c) p.ensures) in (
-      omega (arith, c.loop-i-test.true),
+    let goes = gone_in d.sizes a.by.map.now in
+    let put = put_more (ids_grow goes d.src.now (body_of d.sizes) a.e.first (a.e.sources + a.e.targets)) (omega (arith, c.loop-i-test.true)) l.invariant.1
+    (subst (λ (v : ℕ). Put l.out a.to l.end (renamed goes (v ∷ [])) p.new.out p.result) (read (goal.at.loop-i-preserved c).After-number-id) p.ensures) in (
       (λ h. elim c.if-i-e.branch [
-        | then-i-e w ↦ let last : l.i + 1 ≡ a.e.sources = omega arith in omega (arith, w.middle-is, put.next, ap (λ (n : ℕ). length (ids_3 c n)) last)
-        | else-i-e w ↦ omega (arith, w.middle-is, l.invariant.1 (omega arith))
+        | then-i-e w ↦ let last : l.i + 1 ≡ a.e.sources = omega arith in omega (arith, w.middle-is, put.next, ap (λ (n : ℕ). length (ids a.by a.e n)) last)
+        | else-i-e w ↦ omega (arith, w.middle-is, l.invariant.0 (omega arith))
       ]),
       put,
     )
@@ -152,44 +93,44 @@ loop-i-preserved c =
 pub put_two-requires : goal.put_two-requires
 put_two-requires c =
     let a = c.args in
-    let goes = gone_in a.z a.map.now in
-    let few = renamed_fewer goes (span a.src.now (body_of a.z) a.e.first (a.e.sources + a.e.targets)) in
-    let many = length_span a.src.now (body_of a.z) a.e.first (a.e.sources + a.e.targets) in (
-      holds_same (holds_less (room_2 c) _ (omega arith)) _ (put_length (all c)),
-      omega (arith, middle c, end c, (all c).next, c.requires.targets_bound.0),
-      omega (arith, middle c, end c, (all c).next, c.requires.targets_bound.0),
+    let d = a.by.drawing in
+    let at = (goal.at.put_two-requires c).After-loop-i in
+    let few = renamed_fewer (gone_in d.sizes a.by.map.now) (span d.src.now (body_of d.sizes) a.e.first (a.e.sources + a.e.targets)) in
+    let many = length_span d.src.now (body_of d.sizes) a.e.first (a.e.sources + a.e.targets) in (
+      holds_same (holds_less (room a.by a.e _ c.requires.targets_bound.1) _ (omega arith)) _ (put_length (all at)),
+      omega (arith, middle at, end at, (all at).next, c.requires.targets_bound.0),
+      omega (arith, middle at, end at, (all at).next, c.requires.targets_bound.0),
     )
 
 pub returns : goal.returns
 returns c =
     let a = c.args in
     let l = c.loop-i in
-    let first = ids_5 c a.e.sources in
-    let n : l.middle - (a.j + 2) ≡ length first = omega (arith, middle_2 c) in
-    let m : l.end - l.middle ≡ length (targets_3 c) = omega (arith, end_2 c) in
+    let at = (goal.at.returns c).After-loop-i in
+    let first = ids a.by a.e a.e.sources in
+    let second = targets a.by a.e in
+    let n : l.middle - (a.j + 2) ≡ length first = omega (arith, middle at) in
+    let m : l.end - l.middle ≡ length second = omega (arith, end at) in
     record {
-      stored = c.put_two.ensures ∙ (λ i. puts (((all_2 c).stored ∙ ap (puts a.out.now a.to (a.j + 2)) (lists_3 c)) i) a.to a.j (n i ∷ m i ∷ []))
-          ∙ counts_last a.out.now a.to a.j (length first) (length (targets_3 c)) (first ++ targets_3 c);
-      next = omega (arith, middle_2 c, end_2 c, length-append first (targets_3 c));
+      stored = c.put_two.ensures ∙ (λ i. puts (((all at).stored ∙ ap (puts a.out.now a.to (a.j + 2)) (lists a.by a.e)) i) a.to a.j (n i ∷ m i ∷ []))
+          ∙ counts_last a.out.now a.to a.j (length first) (length second) (first ++ second);
+      next = omega (arith, middle at, end at, length-append first second);
     }
 
 pub overflow_add-middle : goal.overflow_add-middle
-overflow_add-middle c = omega (arith, holds_index (room_3 c))
+overflow_add-middle c = omega (arith, holds_index (room c.args.by c.args.e _ c.requires.targets_bound.1))
 
 pub overflow_add-end : goal.overflow_add-end
-overflow_add-end c = omega (arith, holds_index (room_3 c))
-
-pub overflow_add-e : goal.overflow_add-e
-overflow_add-e c = omega (arith, holds_index c.requires.mapped.1)
+overflow_add-end c = omega (arith, holds_index (room c.args.by c.args.e _ c.requires.targets_bound.1))
 
 pub number-id-requires : goal.number-id-requires
-number-id-requires c = at_row c.body_row-body.ensures (holds_less c.requires.mapped.1 _ (omega arith))
+number-id-requires c = at_row c.body-body.ensures (holds_less c.requires.mapped.0 _ (omega arith))
 
 pub overflow_add-j : goal.overflow_add-j
-overflow_add-j c = omega (arith, holds_index (room_2 c))
+overflow_add-j c = omega (arith, holds_index (room c.args.by c.args.e _ c.requires.targets_bound.1))
 
 pub overflow_sub-middle : goal.overflow_sub-middle
-overflow_sub-middle c = omega (arith, middle c)
+overflow_sub-middle c = omega (arith, middle (goal.at.overflow_sub-middle c).After-loop-i)
 
 pub overflow_sub-end : goal.overflow_sub-end
-overflow_sub-end c = omega (arith, end c)
+overflow_sub-end c = omega (arith, end (goal.at.overflow_sub-end c).After-loop-i)

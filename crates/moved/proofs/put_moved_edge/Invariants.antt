@@ -12,8 +12,8 @@ use Rattle.moved.proofs.put_moved_edge.Given as goal
 
 -- the sources end where the first turns that are theirs have ended
 abbrev pub invariant-loop-i : goal.invariant-loop-i
-invariant-loop-i l = (l.i ≤ l.e.sources + l.e.targets) × (l.e.sources ≤ l.i → l.middle ≡ l.j + 2 + length (renamed (gone_in l.z l.map) (span l.src (body_of l.z) l.e.first l.e.sources)))
-    × Put l.initial.out l.to (l.j + 2) (renamed (gone_in l.z l.map) (span l.src (body_of l.z) l.e.first l.i)) l.out l.end
+invariant-loop-i l = (l.e.sources ≤ l.i → l.middle ≡ l.j + 2 + length (renamed (gone_in l.by.drawing.sizes l.by.map.now) (span l.by.drawing.src.now (body_of l.by.drawing.sizes) l.e.first l.e.sources)))
+    × Put l.initial.out l.to (l.j + 2) (renamed (gone_in l.by.drawing.sizes l.by.map.now) (span l.by.drawing.src.now (body_of l.by.drawing.sizes) l.e.first l.i)) l.out l.end
 
 abbrev pub decreases-loop-i : goal.decreases-loop-i
 decreases-loop-i l = l.e.sources + l.e.targets - l.i

@@ -6,7 +6,7 @@ use mathlib.Core.Path.{refl, sym, ap, ◌∙◌, subst}
 use lib.ListN.{length}
 use Rattle.moved.specs.Places.{gone_in}
 use Rattle.form.specs.Form.{body_of, edge_in}
-use Rattle.form.specs.Stored.{graph_of}
+use Rattle.form.specs.Drawn.{graph_in}
 use Rattle.graph.specs.Delete.{renamed_edge}
 use Rattle.graph.specs.Form.{edge_row}
 use Rattle.graph.specs.Graph.{Edge}
@@ -14,7 +14,7 @@ use Rattle.graph.specs.Lists.{joined}
 use Rattle.le.specs.Rows.{Holds}
 use Rattle.le.specs.declared.Row.{Row}
 use Rattle.write.specs.Write.{Put}
-use Rattle.form.proofs.Stored.{stored_rows}
+use Rattle.form.proofs.Drawn.{stored_in}
 use Rattle.write.proofs.Results.{put_none}
 use Rattle.write.proofs.Edges.{Met, met, edge_held, all_edges, all_fits, edge_less}
 use Rattle.moved.proofs.Edges.{same_row}
@@ -22,44 +22,35 @@ use Rattle.write.proofs.Grows.{put_fits, put_more}
 use Rattle.gone.proofs.Grows.{moved_grow}
 use native.Mathlib.Omega.{arith}
 use Rattle.moved.proofs.put_moved_edges.Goals as goal
-use Rattle.moved.proofs.put_moved_edges.Goals.{After-put_moved_edge-arg-1, After-slice_known-in-loop-i-1}
+use Rattle.moved.proofs.put_moved_edges.Goals.{After-edge_at-e}
 
 -- the edge that is met
-edge : (c : After-put_moved_edge-arg-1) → Met c.args.src.now (body_of c.args.z) c.args.z c.loop-i.i c.loop-i.k c.edge_at-e.result
+edge : (c : After-edge_at-e) → Met c.args.by.drawing.src.now (body_of c.args.by.drawing.sizes) c.args.by.drawing.sizes c.loop-i.i c.loop-i.k c.edge_at-e.result
 edge c = let l = c.loop-i in
-    met c.requires.0 l.i l.k (omega arith) l.invariant.1 _ refl c.edge_at-e.result
-    (c.edge_at-e.ensures ∙ ap (λ (r : Row). edge_in c.args.src.now r l.k) c.body_row-body.ensures)
-
--- the edge that is met
-edge_2 : (c : After-slice_known-in-loop-i-1) → Met c.args.src.now (body_of c.args.z) c.args.z c.loop-i.i c.loop-i.k c.edge_at-e.result
-edge_2 c = let l = c.loop-i in
-    met c.requires.0 l.i l.k (omega arith) l.invariant.1 _ refl c.edge_at-e.result
-    (c.edge_at-e.ensures ∙ ap (λ (r : Row). edge_in c.args.src.now r l.k) c.body_row-body.ensures)
-
-pub body_row-body-requires : goal.body_row-body-requires
-body_row-body-requires c = (stored_rows c.requires.0).low
+    met (stored_in c.args.by.drawing) l.i l.k (omega arith) l.invariant.0 _ refl c.edge_at-e.result
+    (c.edge_at-e.ensures ∙ ap (λ (r : Row). edge_in c.args.by.drawing.src.now r l.k) c.body-body.ensures)
 
 pub loop-i-init : goal.loop-i-init
-loop-i-init c = (omega arith, refl, put_none)
+loop-i-init c = (refl, put_none)
 
 pub edge_at-e-requires : goal.edge_at-e-requires
 edge_at-e-requires c =
     let l = c.loop-i in
-    edge_held c.requires.0 l.i l.k (omega arith) l.invariant.1 _ c.body_row-body.ensures
+    edge_held (stored_in c.args.by.drawing) l.i l.k (omega arith) l.invariant.0 _ c.body-body.ensures
 
 pub put_moved_edge-j-requires : goal.put_moved_edge-j-requires
 put_moved_edge-j-requires c =
     let a = c.args in
     let l = c.loop-i in
-    let m = edge c in
-    let es = (graph_of a.src.now).edges in
-    let goes = gone_in a.z a.map.now in record {
-      mapped = (c.requires.1, m.held, m.ids_known);
+    let m = edge (goal.at.put_moved_edge-j-requires c).After-edge_at-e in
+    let es = (graph_in a.by.drawing).edges in
+    let goes = gone_in a.by.drawing.sizes a.by.map.now in record {
+      mapped = (m.held, m.ids_known);
       targets_bound = (
         m.low,
         subst (λ (l : List ℕ). Holds c.loop-i.out a.to (c.loop-i.j + length l)) (sym (same_row m goes))
-            (put_fits (moved_grow goes edge_row es) (edge_less c.requires.0 l.i (omega arith)) l.invariant.2
-            (all_fits (λ (es : List Edge). joined edge_row (map (renamed_edge goes) es)) es c.requires.2)),
+            (put_fits (moved_grow goes edge_row es) (edge_less (stored_in a.by.drawing) l.i (omega arith)) l.invariant.1
+            (all_fits (λ (es : List Edge). joined edge_row (map (renamed_edge goes) es)) es c.requires)),
       );
     }
 
@@ -67,17 +58,17 @@ pub loop-i-preserved : goal.loop-i-preserved
 loop-i-preserved c =
     let a = c.args in
     let l = c.loop-i in
-    let m = edge_2 c in
-    let goes = gone_in a.z a.map.now in
+    let m = edge (goal.at.loop-i-preserved c).After-edge_at-e in
+    let goes = gone_in a.by.drawing.sizes a.by.map.now in
     let p = c.put_moved_edge-j in (
-      omega arith,
       m.end,
-      put_more (moved_grow goes edge_row (graph_of a.src.now).edges) (edge_less c.requires.0 l.i (omega arith)) l.invariant.2
+      put_more (moved_grow goes edge_row (graph_in a.by.drawing).edges) (edge_less (stored_in a.by.drawing) l.i (omega arith)) l.invariant.1
           (subst (λ (r : List ℕ). Put l.out a.to l.j r p.new.out p.result) (same_row m goes) p.ensures),
     )
 
 pub returns : goal.returns
 returns c =
+    let a = c.args in
     let l = c.loop-i in
-    subst (λ (es : List Edge). Put c.args.out.now c.args.to 0 (joined edge_row (map (renamed_edge (gone_in c.args.z c.args.map.now)) es)) l.out l.j)
-    (all_edges c.requires.0 l.i (omega arith)) l.invariant.2
+    subst (λ (es : List Edge). Put a.out.now a.to 0 (joined edge_row (map (renamed_edge (gone_in a.by.drawing.sizes a.by.map.now)) es)) l.out l.j)
+    (all_edges (stored_in a.by.drawing) l.i (omega arith)) l.invariant.1

@@ -1,6 +1,6 @@
 -- What the loops of `moved::put_moved_ids` keep.
 -- Assumes nothing.
-use Prim.Native.Nat.{◌-◌, ◌≤◌}
+use Prim.Native.Nat.{◌-◌}
 use Rattle.moved.specs.Places.{gone_in}
 use Rattle.form.specs.Form.{body_of}
 use Rattle.graph.specs.Delete.{renamed}
@@ -9,7 +9,7 @@ use Rattle.write.specs.Write.{Put}
 use Rattle.moved.proofs.put_moved_ids.Given as goal
 
 abbrev pub invariant-loop-i : goal.invariant-loop-i
-invariant-loop-i l = (l.i ≤ l.n) × Put l.initial.out l.to l.first (renamed (gone_in l.z l.map) (span l.src (body_of l.z) l.k l.i)) l.out l.j
+invariant-loop-i l = Put l.initial.out l.to l.first (renamed (gone_in l.by.drawing.sizes l.by.map.now) (span l.by.drawing.src.now (body_of l.by.drawing.sizes) l.k l.i)) l.out l.j
 
 abbrev pub decreases-loop-i : goal.decreases-loop-i
 decreases-loop-i l = l.n - l.i

@@ -10,9 +10,6 @@ use Rattle.gone.proofs.Marks.{stays, goes}
 use native.Mathlib.Omega.{arith}
 use Rattle.moved.proofs.put_place.Goals as goal
 
-pub highest-requires : goal.highest-requires
-highest-requires c = c.requires.1.wide
-
 pub put_number-requires : goal.put_number-requires
 put_number-requires c = (c.requires.1, omega (arith, c.highest.ensures, wide_low c.requires.1.wide))
 
@@ -25,9 +22,6 @@ returns-then-room-id-ne0 c =
           ∙ ap (λ (t : Bool). puts a.map.now a.r a.id (cond t (256 ^ a.r.width - 1) a.next ∷ [])) (sym m),
       omega (arith, ap (λ (t : Bool). cond {A = ℕ} t 0 1) m),
     )
-
-pub put_number-requires-2 : goal.put_number-requires-2
-put_number-requires-2 c = (c.requires.1, c.requires.2)
 
 pub returns : goal.returns
 returns c =

@@ -11,7 +11,7 @@ pub pack-requires : goal.pack-requires
 pack-requires c =
     let a = c.args in
     let t-src = below_each 256 a.src.now (λ i l. omega (arith, c.type_inv.src i)) in
-    packs (add_source_ranged a.src.now t-src (length a.out.now) a.edge a.label (omega arith)) c.add_edge_source-x.ensures.result
+    packs _ (add_source_ranged a.src.now t-src (length a.out.now) a.edge a.label (omega arith)) c.add_edge_source-x.ensures.result
 
 pub returns : goal.returns
 returns c = returns_of c.add_edge_source-x.ensures c.pack.ensures

@@ -11,7 +11,7 @@ pub pack-requires : goal.pack-requires
 pack-requires c =
     let a = c.args in
     let t-src = below_each 256 a.src.now (λ i l. omega (arith, c.type_inv.src i)) in
-    packs (delete_edges_ranged a.src.now t-src (length a.out.now) a.ids.now (length a.room.now)) c.delete_edges-x.ensures.result
+    packs _ (delete_edges_ranged a.src.now t-src (length a.out.now) a.ids.now (length a.room.now)) c.delete_edges-x.ensures.result
 
 pub returns : goal.returns
 returns c = returns_of c.delete_edges-x.ensures c.pack.ensures

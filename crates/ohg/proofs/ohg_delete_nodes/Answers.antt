@@ -11,7 +11,7 @@ pub pack-requires : goal.pack-requires
 pack-requires c =
     let a = c.args in
     let t-src = below_each 256 a.src.now (λ i l. omega (arith, c.type_inv.src i)) in
-    packs (delete_nodes_ranged a.src.now t-src (length a.out.now) a.ids.now (length a.map.now) (length a.room.now)) c.delete_nodes-x.ensures.result
+    packs _ (delete_nodes_ranged a.src.now t-src (length a.out.now) a.ids.now (length a.map.now) (length a.room.now)) c.delete_nodes-x.ensures.result
 
 pub returns : goal.returns
 returns c = returns_map_of c.delete_nodes-x.ensures c.pack.ensures

@@ -8,7 +8,7 @@ use Rattle.ohg.proofs.ohg_empty.Goals as goal
 pub pack-requires : goal.pack-requires
 pack-requires c =
     let a = c.args in
-    packs (empty_ranged (length a.out.now)) c.empty-x.ensures.result
+    packs _ (empty_ranged (length a.out.now)) c.empty-x.ensures.result
 
 pub returns : goal.returns
 returns c = returns_of c.empty-x.ensures c.pack.ensures

@@ -11,7 +11,7 @@ pub pack-requires : goal.pack-requires
 pack-requires c =
     let a = c.args in
     let t-labels = below_each 256 a.labels.now (λ i l. omega (arith, c.type_inv.labels i)) in
-    packs (identity_ranged a.labels.now t-labels (length a.out.now)) c.identity-x.ensures.result
+    packs _ (identity_ranged a.labels.now t-labels (length a.out.now)) c.identity-x.ensures.result
 
 pub returns : goal.returns
 returns c = returns_of c.identity-x.ensures c.pack.ensures

@@ -13,7 +13,7 @@ pack-requires c =
     let t-src = below_each 256 a.src.now (λ i l. omega (arith, c.type_inv.src i)) in
     let t-sources = below_each 256 a.sources.now (λ i l. omega (arith, c.type_inv.sources i)) in
     let t-targets = below_each 256 a.targets.now (λ i l. omega (arith, c.type_inv.targets i)) in
-    packs (new_operation_ranged a.src.now t-src (length a.out.now) a.label a.sources.now a.targets.now (omega arith) t-sources t-targets) c.new_operation-x.ensures.result
+    packs _ (new_operation_ranged a.src.now t-src (length a.out.now) a.label a.sources.now a.targets.now (omega arith) t-sources t-targets) c.new_operation-x.ensures.result
 
 pub returns : goal.returns
 returns c = returns_of c.new_operation-x.ensures c.pack.ensures

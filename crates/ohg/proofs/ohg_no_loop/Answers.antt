@@ -12,9 +12,9 @@ pub pack-requires : goal.pack-requires
 pack-requires c =
     let a = c.args in
     let t-src = below_each 256 a.src.now (λ i l. omega (arith, c.type_inv.src i)) in
-    packs (no_loop_ranged a.src.now t-src (length a.room.now)) c.no_loop-x.ensures
+    packs _ (no_loop_ranged a.src.now t-src (length a.room.now)) c.no_loop-x.ensures
 
 pub returns : goal.returns
 returns c =
     let a = c.args in
-    returned (no_loop_call a.src.now (length a.room.now)) c.no_loop-x.ensures c.pack.ensures
+    returned (no_loop_call a.src.now (length a.room.now)) _ c.no_loop-x.ensures c.pack.ensures

@@ -9,9 +9,9 @@ use Rattle.ohg.proofs.ohg_once_fed.Goals as goal
 pub pack-requires : goal.pack-requires
 pack-requires c =
     let a = c.args in
-    packs (once_fed_ranged a.src.now (length a.room.now)) c.once_fed-x.ensures
+    packs _ (once_fed_ranged a.src.now (length a.room.now)) c.once_fed-x.ensures
 
 pub returns : goal.returns
 returns c =
     let a = c.args in
-    returned (once_fed_call a.src.now (length a.room.now)) c.once_fed-x.ensures c.pack.ensures
+    returned (once_fed_call a.src.now (length a.room.now)) _ c.once_fed-x.ensures c.pack.ensures

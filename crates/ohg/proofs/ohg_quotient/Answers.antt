@@ -11,7 +11,7 @@ pub pack-requires : goal.pack-requires
 pack-requires c =
     let a = c.args in
     let t-src = below_each 256 a.src.now (λ i l. omega (arith, c.type_inv.src i)) in
-    packs (quotient_ranged a.src.now t-src (length a.out.now) (length a.map.now) (length a.room.now)) c.quotient-x.ensures.result
+    packs _ (quotient_ranged a.src.now t-src (length a.out.now) (length a.map.now) (length a.room.now)) c.quotient-x.ensures.result
 
 pub returns : goal.returns
 returns c = returns_map_of c.quotient-x.ensures c.pack.ensures

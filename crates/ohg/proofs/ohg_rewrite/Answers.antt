@@ -11,7 +11,7 @@ pub pack-requires : goal.pack-requires
 pack-requires c =
     let a = c.args in
     let t-src = below_each 256 a.src.now (λ i l. omega (arith, c.type_inv.src i)) in
-    packs (rewrite_ranged a.src.now t-src (length a.out.now)) c.rewrite-x.ensures.result
+    packs _ (rewrite_ranged a.src.now t-src (length a.out.now)) c.rewrite-x.ensures.result
 
 pub returns : goal.returns
 returns c = returns_of c.rewrite-x.ensures c.pack.ensures

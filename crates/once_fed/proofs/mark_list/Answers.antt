@@ -4,16 +4,16 @@ use mathlib.Core.Path.{refl, ◌∙◌}
 use Prim.Native.Nat.{◌<◌}
 use native.Mathlib.Nat.{le_antisymm}
 use native.Mathlib.Omega.{arith}
-use borrow.Author.Tests.{not-true, not-false}
 use Rattle.le.specs.Rows.{span}
 use Rattle.le.proofs.Numbers.{below_at}
 use Rattle.le.proofs.Rows.{holds_less, holds_index, length_span, span_at}
-use Rattle.once_fed.proofs.Marked.{list_start, list_turn, list_stop}
+use Rattle.once_fed.specs.Marked.{added}
+use Rattle.once_fed.proofs.Marked.{is_way, list_start, list_turn, list_stop}
 use Rattle.once_fed.proofs.mark_list.Goals as goal
-use Rattle.once_fed.proofs.mark_list.Goals.{After-mark-arg-1, Else-not-mark, Then-not-mark}
+use Rattle.once_fed.proofs.mark_list.Goals.{After-number-id}
 
 -- the id that was read is below the node count
-known : (c : Then-not-mark) → c.number-id.result < c.args.nodes
+known : (c : After-number-id) → c.number-id.result < c.args.nodes
 known c = let a = c.args in
     let i = c.loop-i.i in
     let b = a.src.now in
@@ -24,32 +24,8 @@ known c = let a = c.args in
       below_at a.nodes (span b a.r a.k a.n) i c.requires.1 (omega (arith, length_span b a.r a.k a.n)),
     )
 
--- the id that was read is below the node count
-known_2 : (c : Else-not-mark) → c.number-id.result < c.args.nodes
-known_2 c = let a = c.args in
-    let i = c.loop-i.i in
-    let b = a.src.now in
-    omega (
-      arith,
-      c.number-id.ensures.0,
-      span_at b a.r a.k a.n i (omega arith),
-      below_at a.nodes (span b a.r a.k a.n) i c.requires.1 (omega (arith, length_span b a.r a.k a.n)),
-    )
-
--- the id that was read is below the node count
-known_3 : (c : After-mark-arg-1) → c.number-id.result < c.args.nodes
-known_3 c = let a = c.args in
-    let i = c.loop-i.i in
-    let b = a.src.now in
-    omega (
-      arith,
-      c.number-id.ensures.0,
-      span_at b a.r a.k a.n i (omega arith),
-      below_at a.nodes (span b a.r a.k a.n) i c.requires.1 (omega (arith, length_span b a.r a.k a.n)),
-    )
-
 pub loop-i-init : goal.loop-i-init
-loop-i-init c = let a = c.args in (omega arith, refl, list_start a.room.now a.nodes a.way a.src.now a.r a.k)
+loop-i-init c = let a = c.args in (omega arith, refl, list_start a.room.now a.nodes (added a.way) a.src.now a.r a.k)
 
 pub overflow_add-k : goal.overflow_add-k
 overflow_add-k c = omega (arith, holds_index c.requires.0)
@@ -63,8 +39,8 @@ returns-then-not-mark c =
     let l = c.loop-i in
     let f = c.mark in
     let x = c.number-id in
-    list_stop a.room.now a.nodes a.way a.src.now a.r a.k a.n l.i (omega arith) l.room l.invariant.2 x.result x.ensures.0 (known c) (omega arith)
-    c.requires.3 f.result f.ensures.value f.new.room f.ensures.room_after (not-true _ c.if-not-mark.true-raw)
+    list_stop a.room.now a.nodes (added a.way) a.src.now a.r a.k a.n l.i (omega arith) l.room l.invariant.2 x.result x.ensures.0 (known (goal.at.returns-then-not-mark c).After-number-id) (omega arith)
+    (is_way a.way) f.result f.ensures.value f.new.room f.ensures.room_after c.if-not-mark.true
 
 pub loop-i-preserved : goal.loop-i-preserved
 loop-i-preserved c =
@@ -74,12 +50,12 @@ loop-i-preserved c =
     let x = c.number-id in (
       omega arith,
       f.auto.room ∙ l.invariant.1,
-      list_turn a.room.now a.nodes a.way a.src.now a.r a.k a.n l.i (omega arith) l.room l.invariant.2 x.result x.ensures.0 (known_2 c) (omega arith)
-          c.requires.3 f.result f.ensures.value f.new.room f.ensures.room_after (not-false _ c.if-not-mark.false-raw),
+      list_turn a.room.now a.nodes (added a.way) a.src.now a.r a.k a.n l.i (omega arith) l.room l.invariant.2 x.result x.ensures.0 (known (goal.at.loop-i-preserved c).After-number-id) (omega arith)
+          (is_way a.way) f.result f.ensures.value f.new.room f.ensures.room_after c.if-not-mark.false,
     )
 
 pub mark-requires : goal.mark-requires
-mark-requires c = (omega (arith, known_3 c), c.requires.3)
+mark-requires c = omega (arith, known (goal.at.mark-requires c).After-number-id)
 
 pub returns : goal.returns
 returns c =

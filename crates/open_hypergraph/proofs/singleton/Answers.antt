@@ -5,105 +5,53 @@ use mathlib.Core.Path.{refl, ◌∙◌}
 use native.Mathlib.Omega.{arith}
 use lib.ListN.{length}
 use Rattle.graph.specs.Build.{singleton}
-use Rattle.graph.specs.Calls.{label_list, singleton_step, singleton_call}
-use Rattle.form.proofs.Answers.{list_refused, passed_on}
-use Rattle.write.proofs.Calls.{nothing_stopped_gives, Ends, nothing_ends}
+use Rattle.graph.specs.Calls.{label_list, singleton_call, singleton_step}
+use Rattle.form.proofs.Answers.{refused_so, gives_passed}
+use Rattle.form.proofs.Listed.{labels_given}
+use Rattle.write.proofs.Calls.{nothing_refused, Ends, nothing_ends}
 use Rattle.pieces.specs.Lent.{lent}
-use Rattle.form.proofs.Listed.{Given, labels_given}
 use Rattle.open_hypergraph.proofs.Forms.{singleton_sources, singleton_targets, singleton_next, singleton_sizes}
 use Rattle.open_hypergraph.proofs.singleton.Goals as goal
-use Rattle.open_hypergraph.proofs.singleton.Goals.{After-put_singleton-arg-1, After-refusal-in_default-size, After-refusal-in_default-to, After-slice_known-2-1, In-Number-to}
+use Rattle.open_hypergraph.proofs.singleton.Goals.{After-result_size}
 
--- the lists in the call
-from : (c : After-refusal-in_default-to) → Given (label_list c.args.sources.now) c.args.sources.now 4 c.in-Number.s
-from c = labels_given _ c.label_list-from.result _ c.in-Number.is (inr refl) c.label_list-from.ensures
-
--- the lists in the call
-from_2 : (c : After-put_singleton-arg-1) → Given (label_list c.args.sources.now) c.args.sources.now 4 c.in-Number.s
-from_2 c = labels_given _ c.label_list-from.result _ c.in-Number.is (inr refl) c.label_list-from.ensures
-
-to : (c : After-put_singleton-arg-1) → Given (label_list c.args.targets.now) c.args.targets.now 4 c.in-Number-to.t
-to c = labels_given _ c.label_list-to.result _ c.in-Number-to.is (inr refl) c.label_list-to.ensures
-
-ends : (c : After-put_singleton-arg-1) → Ends (singleton_call c.args.label c.args.sources.now c.args.targets.now (length c.args.out.now))
-    c.args.out.now c.sized-y.result c.result_size-size.result
-    (singleton c.args.label (lent c.args.sources.now 4 c.in-Number.s) (lent c.args.targets.now 4 c.in-Number-to.t)) 0
-ends c = let a = c.args in
-    nothing_ends a.out.now _ _ (c.sized-y.ensures ∙ singleton_sizes a.label a.sources.now a.targets.now _ _) c.result_size-size.ensures
-    (singleton_step a.label a.sources.now a.targets.now)
-    (singleton_next a.label a.sources.now a.targets.now (from_2 c).answers (to c).answers)
-
--- the lists in the call
-from_3 : (c : After-refusal-in_default-size) → Given (label_list c.args.sources.now) c.args.sources.now 4 c.in-Number.s
-from_3 c = labels_given _ c.label_list-from.result _ c.in-Number.is (inr refl) c.label_list-from.ensures
-
-to_2 : (c : After-refusal-in_default-size) → Given (label_list c.args.targets.now) c.args.targets.now 4 c.in-Number-to.t
-to_2 c = labels_given _ c.label_list-to.result _ c.in-Number-to.is (inr refl) c.label_list-to.ensures
-
-ends_2 : (c : After-refusal-in_default-size) → Ends (singleton_call c.args.label c.args.sources.now c.args.targets.now (length c.args.out.now))
-    c.args.out.now c.sized-y.result c.result_size-size.result
-    (singleton c.args.label (lent c.args.sources.now 4 c.in-Number.s) (lent c.args.targets.now 4 c.in-Number-to.t)) 0
-ends_2 c = let a = c.args in
-    nothing_ends a.out.now _ _ (c.sized-y.ensures ∙ singleton_sizes a.label a.sources.now a.targets.now _ _) c.result_size-size.ensures
-    (singleton_step a.label a.sources.now a.targets.now)
-    (singleton_next a.label a.sources.now a.targets.now (from_3 c).answers (to_2 c).answers)
-
--- the lists in the call
-from_4 : (c : In-Number-to) → Given (label_list c.args.sources.now) c.args.sources.now 4 c.in-Number.s
-from_4 c = labels_given _ c.label_list-from.result _ c.in-Number.is (inr refl) c.label_list-from.ensures
-
-to_3 : (c : In-Number-to) → Given (label_list c.args.targets.now) c.args.targets.now 4 c.in-Number-to.t
-to_3 c = labels_given _ c.label_list-to.result _ c.in-Number-to.is (inr refl) c.label_list-to.ensures
-
--- the lists in the call
-from_5 : (c : After-slice_known-2-1) → Given (label_list c.args.sources.now) c.args.sources.now 4 c.in-Number.s
-from_5 c = labels_given _ c.label_list-from.result _ c.in-Number.is (inr refl) c.label_list-from.ensures
-
-to_4 : (c : After-slice_known-2-1) → Given (label_list c.args.targets.now) c.args.targets.now 4 c.in-Number-to.t
-to_4 c = labels_given _ c.label_list-to.result _ c.in-Number-to.is (inr refl) c.label_list-to.ensures
-
-ends_3 : (c : After-slice_known-2-1) → Ends (singleton_call c.args.label c.args.sources.now c.args.targets.now (length c.args.out.now))
-    c.args.out.now c.sized-y.result c.result_size-size.result
-    (singleton c.args.label (lent c.args.sources.now 4 c.in-Number.s) (lent c.args.targets.now 4 c.in-Number-to.t)) 0
-ends_3 c = let a = c.args in
-    nothing_ends a.out.now _ _ (c.sized-y.ensures ∙ singleton_sizes a.label a.sources.now a.targets.now _ _) c.result_size-size.ensures
-    (singleton_step a.label a.sources.now a.targets.now)
-    (singleton_next a.label a.sources.now a.targets.now (from_5 c).answers (to_4 c).answers)
-
-pub returns-in_default : goal.returns-in_default
-returns-in_default c =
+ends : (c : After-result_size) → Ends (singleton_call c.args.label c.args.sources.now c.args.targets.now (length c.args.out.now)) c.args.out.now c.sized-y.result
+    (singleton c.args.label (lent c.args.sources.now 4 c.in_ok-s.s) (lent c.args.targets.now 4 c.in_ok-t.t)) 0
+ends c =
     let a = c.args in
-    let r = c.label_list-from in
-    nothing_stopped_gives _ a.out.now _
-    (singleton_sources a.label a.sources.now a.targets.now (list_refused _ r.result r.ensures _ (passed_on c.in_default.is c.refusal.ensures)))
+    let from = labels_given _ _ (inr refl) c.in_ok-s.ensures in
+    let to = labels_given _ _ (inr refl) c.in_ok-t.ensures in
+    nothing_ends a.out.now _ _ (c.sized-y.ensures ∙ singleton_sizes a.label a.sources.now a.targets.now _ _) (singleton_step a.label a.sources.now a.targets.now)
+    (singleton_next a.label a.sources.now a.targets.now from.answers to.answers)
 
-pub returns-in_default-to : goal.returns-in_default-to
-returns-in_default-to c =
+pub returns-in_err-s : goal.returns-in_err-s
+returns-in_err-s c =
     let a = c.args in
-    let r = c.label_list-to in
-    nothing_stopped_gives _ a.out.now _
-    (singleton_targets a.label a.sources.now a.targets.now (from c).answers
-    (list_refused _ r.result r.ensures _ (passed_on c.in_default-to.is c.refusal-in_default-to.ensures)))
+    gives_passed _ _ c.from_residual.ensures.1
+    (nothing_refused _ _ (singleton_sources a.label a.sources.now a.targets.now (refused_so _ (label_list a.sources.now) _ c.in_err-s.ensures)))
+
+pub returns-in_err-t : goal.returns-in_err-t
+returns-in_err-t c =
+    let a = c.args in
+    let from = labels_given _ _ (inr refl) c.in_ok-s.ensures in
+    gives_passed _ _ c.from_residual-in_err-t.ensures.1
+    (nothing_refused _ _ (singleton_targets a.label a.sources.now a.targets.now from.answers (refused_so _ (label_list a.targets.now) _ c.in_err-t.ensures)))
 
 pub put_singleton-requires : goal.put_singleton-requires
 put_singleton-requires c =
     let y = c.sized-y.ensures in (
-      (ends c).room c.in-Number-size.is,
+      (ends (goal.at.put_singleton-requires c).After-result_size).room c.in_ok-bytes.ensures,
       rw y (omega arith),
       rw y (omega arith),
       rw y (omega arith),
-      (from_2 c).there,
-      (to c).there,
+      (labels_given _ _ (inr refl) c.in_ok-s.ensures).there,
+      (labels_given _ _ (inr refl) c.in_ok-t.ensures).there,
     )
 
-pub result_size-size-requires : goal.result_size-size-requires
-result_size-size-requires c = rw c.sized-y.ensures
-
-pub returns-in_default-size : goal.returns-in_default-size
-returns-in_default-size c = (ends_2 c).refuses c.in_default-size.is c.refusal-in_default-size.ensures
+pub returns-in_err-bytes : goal.returns-in_err-bytes
+returns-in_err-bytes c = (ends (goal.at.returns-in_err-bytes c).After-result_size).refuses _ c.in_err-bytes.ensures c.from_residual-in_err-bytes.ensures.1
 
 pub overflow_add-n : goal.overflow_add-n
-overflow_add-n c = omega (arith, (from_4 c).there.inside, (to_3 c).there.inside)
+overflow_add-n c = omega (arith, (labels_given _ _ (inr refl) c.in_ok-s.ensures).there.inside, (labels_given _ _ (inr refl) c.in_ok-t.ensures).there.inside)
 
 pub returns : goal.returns
-returns c = (ends_3 c).done c.in-Number-size.is c.put_singleton.ensures
+returns c = (ends (goal.at.returns c).After-result_size).done c.in_ok-bytes.ensures c.put_singleton.ensures

@@ -1,246 +1,99 @@
 -- `operations::new_edge` meets its contract.
 -- Assumes nothing.
+use mathlib.Core.List.{List}
 use mathlib.Core.Path.{ap, ◌∙◌}
-use Prim.Native.Nat.{◌+◌, ◌<◌, ◌^◌}
+use Prim.Native.Nat.{ℕ}
 use native.Mathlib.Omega.{arith}
 use lib.ListN.{length}
 use Rattle.graph.specs.Build.{new_edge}
-use Rattle.graph.specs.Calls.{new_edge_call, new_edge_step, id_list}
+use Rattle.graph.specs.Calls.{new_edge_call, new_edge_step}
 use Rattle.le.proofs.Rows.{holds_index}
 use Rattle.form.specs.Form.{body_size}
-use Rattle.form.specs.Stored.{Stored, graph_of, format_of}
-use Rattle.form.proofs.Answers.{passed_read, passed_on}
+use Rattle.form.specs.Drawn.{graph_in}
+use Rattle.form.proofs.Answers.{gives_passed}
+use Rattle.form.proofs.Listed.{ids_given_lem, ids_refused}
+use Rattle.form.proofs.Drawn.{stored_in, at_source}
 use Rattle.form.proofs.Stored.{unread, stored_rows, stored_bytes}
 use Rattle.write.proofs.Calls.{graph_unread, graph_stopped, Ends, graph_ends}
-use Rattle.form.proofs.Listed.{Given, ids_given_lem, ids_refused}
 use Rattle.pieces.specs.Lent.{lent}
+use Rattle.pieces.proofs.Two.{first_stops, second_stops, both_go}
 use Rattle.operations.proofs.Bodies.{new_edge_sizes}
 use Rattle.operations.proofs.Calls.{graph_over, new_edge_lists}
-use Rattle.pieces.proofs.Two.{first_stops, second_stops, both_go}
 use Rattle.operations.proofs.new_edge.Goals as goal
-use Rattle.operations.proofs.new_edge.Goals.{After-put_new_edge-arg-1, After-refusal-in_default-from, After-refusal-in_default-size, After-refusal-in_default-to, After-slice_known-2-1, After-struct_known-1, After-struct_known-2-1, In-Number, In-Number-to, In-Sized, Then-new-gt-MAX_PORTS}
+use Rattle.operations.proofs.new_edge.Goals.{After-result_size}
 
--- the form that was read
-form : (c : In-Sized) → Stored c.args.src.now c.in-Sized.z
-form c = stored_bytes c.read-graph.ensures c.type_inv.src c.in-Sized.is
-
--- the form that was read
-form_2 : (c : After-refusal-in_default-from) → Stored c.args.src.now c.in-Sized.z
-form_2 c = stored_bytes c.read-graph.ensures c.type_inv.src c.in-Sized.is
-
--- the form that was read
-form_3 : (c : In-Number) → Stored c.args.src.now c.in-Sized.z
-form_3 c = stored_bytes c.read-graph.ensures c.type_inv.src c.in-Sized.is
-
--- the form that was read
-form_4 : (c : After-refusal-in_default-to) → Stored c.args.src.now c.in-Sized.z
-form_4 c = stored_bytes c.read-graph.ensures c.type_inv.src c.in-Sized.is
-
--- the lists in the call
-sources : (c : After-refusal-in_default-to) → Given
-    (id_list (format_of c.args.src.now) c.in-Sized.z.nodes c.args.sources.now) c.args.sources.now c.in-Sized.z.width c.in-Number.s
-sources c = ids_given_lem (form_4 c) _ _ c.id_list-from.result c.id_list-from.ensures _ c.in-Number.is
-
--- the form that was read
-form_5 : (c : In-Number-to) → Stored c.args.src.now c.in-Sized.z
-form_5 c = stored_bytes c.read-graph.ensures c.type_inv.src c.in-Sized.is
-
--- the lists in the call
-sources_2 : (c : In-Number-to) → Given
-    (id_list (format_of c.args.src.now) c.in-Sized.z.nodes c.args.sources.now) c.args.sources.now c.in-Sized.z.width c.in-Number.s
-sources_2 c = ids_given_lem (form_5 c) _ _ c.id_list-from.result c.id_list-from.ensures _ c.in-Number.is
-
-targets : (c : In-Number-to) → Given
-    (id_list (format_of c.args.src.now) c.in-Sized.z.nodes c.args.targets.now) c.args.targets.now c.in-Sized.z.width c.in-Number-to.t
-targets c = ids_given_lem (form_5 c) _ _ c.id_list-to.result c.id_list-to.ensures _ c.in-Number-to.is
-
--- they are not so long that sums wrap
-short : (c : In-Number-to) → c.in-Number.s + c.in-Number-to.t < 2 ^ 63
-short c = omega (arith, holds_index (sources_2 c).there, holds_index (targets c).there)
-
--- the form that was read
-form_6 : (c : Then-new-gt-MAX_PORTS) → Stored c.args.src.now c.in-Sized.z
-form_6 c = stored_bytes c.read-graph.ensures c.type_inv.src c.in-Sized.is
-
--- the lists in the call
-sources_3 : (c : Then-new-gt-MAX_PORTS) → Given
-    (id_list (format_of c.args.src.now) c.in-Sized.z.nodes c.args.sources.now) c.args.sources.now c.in-Sized.z.width c.in-Number.s
-sources_3 c = ids_given_lem (form_6 c) _ _ c.id_list-from.result c.id_list-from.ensures _ c.in-Number.is
-
-targets_2 : (c : Then-new-gt-MAX_PORTS) → Given
-    (id_list (format_of c.args.src.now) c.in-Sized.z.nodes c.args.targets.now) c.args.targets.now c.in-Sized.z.width c.in-Number-to.t
-targets_2 c = ids_given_lem (form_6 c) _ _ c.id_list-to.result c.id_list-to.ensures _ c.in-Number-to.is
-
--- the form that was read
-form_7 : (c : After-struct_known-1) → Stored c.args.src.now c.in-Sized.z
-form_7 c = stored_bytes c.read-graph.ensures c.type_inv.src c.in-Sized.is
-
--- the form that was read
-form_8 : (c : After-struct_known-2-1) → Stored c.args.src.now c.in-Sized.z
-form_8 c = stored_bytes c.read-graph.ensures c.type_inv.src c.in-Sized.is
-
--- the lists in the call
-sources_4 : (c : After-struct_known-2-1) → Given
-    (id_list (format_of c.args.src.now) c.in-Sized.z.nodes c.args.sources.now) c.args.sources.now c.in-Sized.z.width c.in-Number.s
-sources_4 c = ids_given_lem (form_8 c) _ _ c.id_list-from.result c.id_list-from.ensures _ c.in-Number.is
-
-targets_3 : (c : After-struct_known-2-1) → Given
-    (id_list (format_of c.args.src.now) c.in-Sized.z.nodes c.args.targets.now) c.args.targets.now c.in-Sized.z.width c.in-Number-to.t
-targets_3 c = ids_given_lem (form_8 c) _ _ c.id_list-to.result c.id_list-to.ensures _ c.in-Number-to.is
-
--- they are not so long that sums wrap
-short_2 : (c : After-struct_known-2-1) → c.in-Number.s + c.in-Number-to.t < 2 ^ 63
-short_2 c = omega (arith, holds_index (sources_4 c).there, holds_index (targets_3 c).there)
-
--- the form that was read
-form_9 : (c : After-refusal-in_default-size) → Stored c.args.src.now c.in-Sized.z
-form_9 c = stored_bytes c.read-graph.ensures c.type_inv.src c.in-Sized.is
-
--- the lists in the call
-sources_5 : (c : After-refusal-in_default-size) → Given
-    (id_list (format_of c.args.src.now) c.in-Sized.z.nodes c.args.sources.now) c.args.sources.now c.in-Sized.z.width c.in-Number.s
-sources_5 c = ids_given_lem (form_9 c) _ _ c.id_list-from.result c.id_list-from.ensures _ c.in-Number.is
-
-targets_4 : (c : After-refusal-in_default-size) → Given
-    (id_list (format_of c.args.src.now) c.in-Sized.z.nodes c.args.targets.now) c.args.targets.now c.in-Sized.z.width c.in-Number-to.t
-targets_4 c = ids_given_lem (form_9 c) _ _ c.id_list-to.result c.id_list-to.ensures _ c.in-Number-to.is
-
-ends : (c : After-refusal-in_default-size) → Ends (new_edge_call c.args.src.now c.args.label
-    c.args.sources.now c.args.targets.now (length c.args.out.now)) c.args.out.now
-    c.sized-y.result c.result_size-size.result
-    (new_edge c.args.label (lent c.args.sources.now c.in-Sized.z.width c.in-Number.s)
-    (lent c.args.targets.now c.in-Sized.z.width c.in-Number-to.t)
-    (graph_of c.args.src.now)) c.in-Sized.z.edges
-ends c = let a = c.args in
-    let s = form_9 c in
-    let p = sources_5 c in
-    let q = targets_4 c in
-    graph_ends a.out.now _ _ (c.sized-y.ensures ∙ new_edge_sizes s a.label _ _ _ _ p.many q.many) c.result_size-size.ensures
-    a.src.now (λ f. new_edge_step f a.label a.sources.now a.targets.now) s
-    (both_go _ _ _ _ (new_edge_lists s a.label a.sources.now a.targets.now) p.answers q.answers)
-
--- the form that was read
-form_10 : (c : After-put_new_edge-arg-1) → Stored c.args.src.now c.in-Sized.z
-form_10 c = stored_bytes c.read-graph.ensures c.type_inv.src c.in-Sized.is
-
--- the lists in the call
-sources_6 : (c : After-put_new_edge-arg-1) → Given
-    (id_list (format_of c.args.src.now) c.in-Sized.z.nodes c.args.sources.now) c.args.sources.now c.in-Sized.z.width c.in-Number.s
-sources_6 c = ids_given_lem (form_10 c) _ _ c.id_list-from.result c.id_list-from.ensures _ c.in-Number.is
-
-targets_5 : (c : After-put_new_edge-arg-1) → Given
-    (id_list (format_of c.args.src.now) c.in-Sized.z.nodes c.args.targets.now) c.args.targets.now c.in-Sized.z.width c.in-Number-to.t
-targets_5 c = ids_given_lem (form_10 c) _ _ c.id_list-to.result c.id_list-to.ensures _ c.in-Number-to.is
-
-ends_2 : (c : After-put_new_edge-arg-1) → Ends (new_edge_call c.args.src.now c.args.label
-    c.args.sources.now c.args.targets.now (length c.args.out.now)) c.args.out.now
-    c.sized-y.result c.result_size-size.result
-    (new_edge c.args.label (lent c.args.sources.now c.in-Sized.z.width c.in-Number.s)
-    (lent c.args.targets.now c.in-Sized.z.width c.in-Number-to.t)
-    (graph_of c.args.src.now)) c.in-Sized.z.edges
-ends_2 c = let a = c.args in
-    let s = form_10 c in
-    let p = sources_6 c in
-    let q = targets_5 c in
-    graph_ends a.out.now _ _ (c.sized-y.ensures ∙ new_edge_sizes s a.label _ _ _ _ p.many q.many) c.result_size-size.ensures
-    a.src.now (λ f. new_edge_step f a.label a.sources.now a.targets.now) s
-    (both_go _ _ _ _ (new_edge_lists s a.label a.sources.now a.targets.now) p.answers q.answers)
-
--- the form that was read
-form_11 : (c : After-slice_known-2-1) → Stored c.args.src.now c.in-Sized.z
-form_11 c = stored_bytes c.read-graph.ensures c.type_inv.src c.in-Sized.is
-
--- the lists in the call
-sources_7 : (c : After-slice_known-2-1) → Given
-    (id_list (format_of c.args.src.now) c.in-Sized.z.nodes c.args.sources.now) c.args.sources.now c.in-Sized.z.width c.in-Number.s
-sources_7 c = ids_given_lem (form_11 c) _ _ c.id_list-from.result c.id_list-from.ensures _ c.in-Number.is
-
-targets_6 : (c : After-slice_known-2-1) → Given
-    (id_list (format_of c.args.src.now) c.in-Sized.z.nodes c.args.targets.now) c.args.targets.now c.in-Sized.z.width c.in-Number-to.t
-targets_6 c = ids_given_lem (form_11 c) _ _ c.id_list-to.result c.id_list-to.ensures _ c.in-Number-to.is
-
-ends_3 : (c : After-slice_known-2-1) → Ends (new_edge_call c.args.src.now c.args.label
-    c.args.sources.now c.args.targets.now (length c.args.out.now)) c.args.out.now
-    c.sized-y.result c.result_size-size.result
-    (new_edge c.args.label (lent c.args.sources.now c.in-Sized.z.width c.in-Number.s)
-    (lent c.args.targets.now c.in-Sized.z.width c.in-Number-to.t)
-    (graph_of c.args.src.now)) c.in-Sized.z.edges
-ends_3 c = let a = c.args in
-    let s = form_11 c in
-    let p = sources_7 c in
-    let q = targets_6 c in
-    graph_ends a.out.now _ _ (c.sized-y.ensures ∙ new_edge_sizes s a.label _ _ _ _ p.many q.many) c.result_size-size.ensures
-    a.src.now (λ f. new_edge_step f a.label a.sources.now a.targets.now) s
-    (both_go _ _ _ _ (new_edge_lists s a.label a.sources.now a.targets.now) p.answers q.answers)
-
-pub returns-in_default : goal.returns-in_default
-returns-in_default c =
+ends : (c : After-result_size) → Ends (new_edge_call c.args.src.now c.args.label c.args.sources.now c.args.targets.now (length c.args.out.now)) c.args.out.now c.sized-y.result
+    (new_edge c.args.label (lent c.args.sources.now c.in_ok-drawing.drawing.sizes.width c.in_ok-s.s) (lent c.args.targets.now c.in_ok-drawing.drawing.sizes.width c.in_ok-t.t)
+    (graph_in c.in_ok-drawing.drawing))
+    c.in_ok-drawing.drawing.sizes.edges
+ends c =
     let a = c.args in
-    let b = a.src.now in
-    graph_unread b (λ f. new_edge_step f a.label a.sources.now a.targets.now) a.out.now _
-    (unread b c.read-graph.result c.read-graph.ensures _ (passed_read c.in_default.is c.refusal.ensures))
+    let old = a.out.now in
+    let d = c.in_ok-drawing.drawing in
+    let p = ids_given_lem (stored_in d) _ _ _ c.in_ok-s.ensures in
+    let q = ids_given_lem (stored_in d) _ _ _ c.in_ok-t.ensures in
+    let made = new_edge a.label (lent a.sources.now d.sizes.width c.in_ok-s.s) (lent a.targets.now d.sizes.width c.in_ok-t.t) (graph_in d) in
+    at_source (λ (b : List ℕ). Ends (new_edge_call b a.label a.sources.now a.targets.now (length old)) old c.sized-y.result made d.sizes.edges) c.in_ok-drawing.ensures.source
+    (graph_ends old _ _ (c.sized-y.ensures ∙ new_edge_sizes (stored_in d) a.label _ _ _ _ p.many q.many) _ (λ f. new_edge_step f a.label a.sources.now a.targets.now) (stored_in d)
+    (both_go _ _ _ _ (new_edge_lists (stored_in d) a.label a.sources.now a.targets.now) p.answers q.answers))
 
-pub id_list-from-requires : goal.id_list-from-requires
-id_list-from-requires c = (stored_rows (form c)).low.width
+pub returns-in_err-drawing : goal.returns-in_err-drawing
+returns-in_err-drawing c = gives_passed _ _ c.from_residual.ensures.1 (graph_unread _ _ _ (unread _ _ c.in_err-drawing.ensures.sizes))
 
-pub returns-in_default-from : goal.returns-in_default-from
-returns-in_default-from c =
+pub id_list-requires : goal.id_list-requires
+id_list-requires c = (stored_rows (stored_in c.in_ok-drawing.drawing)).low.width
+
+pub returns-in_err-s : goal.returns-in_err-s
+returns-in_err-s c =
     let a = c.args in
-    let s = form_2 c in
-    graph_stopped a.src.now (λ f. new_edge_step f a.label a.sources.now a.targets.now) a.out.now s _
-    (first_stops _ _ _ _ (new_edge_lists s a.label a.sources.now a.targets.now)
-    (ids_refused s _ _ _ c.id_list-from.ensures _ (passed_on c.in_default-from.is c.refusal-in_default-from.ensures)))
+    let s = stored_bytes c.in_ok-drawing.ensures.sizes c.type_inv.src in
+    gives_passed _ _ c.from_residual-in_err-s.ensures.1
+    (graph_stopped _ _ _ s (first_stops _ _ _ _ (new_edge_lists s a.label a.sources.now a.targets.now) (ids_refused s _ _ _ c.in_err-s.ensures)))
 
-pub id_list-to-requires : goal.id_list-to-requires
-id_list-to-requires c = (stored_rows (form_3 c)).low.width
+pub id_list-requires-2 : goal.id_list-requires-2
+id_list-requires-2 c = (stored_rows (stored_in c.in_ok-drawing.drawing)).low.width
 
-pub returns-in_default-to : goal.returns-in_default-to
-returns-in_default-to c =
+pub returns-in_err-t : goal.returns-in_err-t
+returns-in_err-t c =
     let a = c.args in
-    let s = form_4 c in
-    graph_stopped a.src.now (λ f. new_edge_step f a.label a.sources.now a.targets.now) a.out.now s _
-    (second_stops _ _ _ _ (new_edge_lists s a.label a.sources.now a.targets.now) (sources c).answers
-    (ids_refused s _ _ _ c.id_list-to.ensures _ (passed_on c.in_default-to.is c.refusal-in_default-to.ensures)))
+    let s = stored_bytes c.in_ok-drawing.ensures.sizes c.type_inv.src in
+    gives_passed _ _ c.from_residual-in_err-t.ensures.1
+    (graph_stopped _ _ _ s
+    (second_stops _ _ _ _ (new_edge_lists s a.label a.sources.now a.targets.now) (ids_given_lem s _ _ _ c.in_ok-s.ensures).answers (ids_refused s _ _ _ c.in_err-t.ensures)))
 
+-- the lists are not so long that sums wrap
 pub overflow_add-new : goal.overflow_add-new
-overflow_add-new c = omega (arith, short c)
+overflow_add-new c =
+    let s = stored_in c.in_ok-drawing.drawing in
+    omega (arith, holds_index (ids_given_lem s _ _ _ c.in_ok-s.ensures).there, holds_index (ids_given_lem s _ _ _ c.in_ok-t.ensures).there)
 
 pub returns-then-new-gt-MAX_PORTS : goal.returns-then-new-gt-MAX_PORTS
 returns-then-new-gt-MAX_PORTS c =
     let a = c.args in
-    let s = form_6 c in
-    let p = sources_3 c in
-    let q = targets_2 c in
+    let s = stored_bytes c.in_ok-drawing.ensures.sizes c.type_inv.src in
+    let p = ids_given_lem s _ _ _ c.in_ok-s.ensures in
+    let q = ids_given_lem s _ _ _ c.in_ok-t.ensures in
     graph_over a.src.now (λ f. new_edge_step f a.label a.sources.now a.targets.now) a.out.now s _
     (both_go _ _ _ _ (new_edge_lists s a.label a.sources.now a.targets.now) p.answers q.answers)
-    (omega (arith, ap (λ y. y.ports) (new_edge_sizes s a.label (lent a.sources.now c.in-Sized.z.width c.in-Number.s) (lent a.targets.now c.in-Sized.z.width c.in-Number-to.t) _ _ p.many q.many), c.if-new-gt-MAX_PORTS.true))
+    (omega (arith, ap (λ y. y.ports) (new_edge_sizes s a.label (lent a.sources.now c.in_ok-drawing.drawing.sizes.width c.in_ok-s.s) (lent a.targets.now c.in_ok-drawing.drawing.sizes.width c.in_ok-t.t) _ _ p.many q.many), c.if-new-gt-MAX_PORTS.true))
 
-pub overflow_add-z : goal.overflow_add-z
-overflow_add-z c = omega (arith, (stored_rows (form_7 c)).low.edges)
-
-pub overflow_add-z-2 : goal.overflow_add-z-2
-overflow_add-z-2 c = omega (arith, (stored_rows (form_8 c)).low.ports, short_2 c)
-
-pub result_size-size-requires : goal.result_size-size-requires
-result_size-size-requires c = rw c.sized-y.ensures
-
-pub returns-in_default-size : goal.returns-in_default-size
-returns-in_default-size c = (ends c).refuses c.in_default-size.is c.refusal-in_default-size.ensures
+pub returns-in_err-bytes : goal.returns-in_err-bytes
+returns-in_err-bytes c = (ends (goal.at.returns-in_err-bytes c).After-result_size).refuses _ c.in_err-bytes.ensures c.from_residual-in_err-bytes.ensures.1
 
 pub put_new_edge-requires : goal.put_new_edge-requires
 put_new_edge-requires c =
+    let s = stored_in c.in_ok-drawing.drawing in
     let y = c.sized-y.ensures in
-    let room = (ends_2 c).room c.in-Number-size.is in (
-      stored_rows (form_10 c),
+    let room = (ends (goal.at.put_new_edge-requires c).After-result_size).room c.in_ok-bytes.ensures in (
       room,
       ap (λ y. y.nodes) y,
       ap (λ y. y.edges) y,
       omega (arith, ap body_size y),
       omega (arith, room.low.ports, ap (λ y. y.ports) y),
       omega (arith, room.low.ports, ap (λ y. y.ports) y),
-      (sources_6 c).there,
-      (targets_5 c).there,
+      (ids_given_lem s _ _ _ c.in_ok-s.ensures).there,
+      (ids_given_lem s _ _ _ c.in_ok-t.ensures).there,
     )
 
 pub returns : goal.returns
-returns c = (ends_3 c).done c.in-Number-size.is c.put_new_edge.ensures
+returns c = (ends (goal.at.returns c).After-result_size).done c.in_ok-bytes.ensures c.put_new_edge.ensures

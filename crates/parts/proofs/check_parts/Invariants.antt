@@ -1,13 +1,8 @@
--- What the loops of `parts::check_parts` keep.
+-- What the loop of `parts::check_parts` keeps: the first i edges are in order, and the next one begins at k.
 -- Assumes nothing.
-use mathlib.Core.Path.{◌≡◌}
-use Prim.Native.Nat.{◌-◌, ◌≤◌}
 use Rattle.form.specs.Stored.{graph_of}
 use Rattle.parts.proofs.Walking.{Sofar}
 use Rattle.parts.proofs.check_parts.Given as goal
 
 abbrev pub invariant-loop-i : goal.invariant-loop-i
-invariant-loop-i l = (l.i ≤ l.z.edges) × (l.i-end ≡ l.z.edges) × Sofar (graph_of l.src).edges l.i l.k
-
-abbrev pub decreases-loop-i : goal.decreases-loop-i
-decreases-loop-i l = l.z.edges - l.i
+invariant-loop-i l = Sofar (graph_of l.drawing.src.now).edges l.i l.k

@@ -1,11 +1,7 @@
 -- `parts::put_bill` meets its contract.
 -- Assumes nothing.
-use native.Mathlib.Omega.{arith}
 use Rattle.parts.proofs.Putting.{all_put}
 use Rattle.parts.proofs.put_bill.Goals as goal
-
-pub put_row-requires : goal.put_row-requires
-put_row-requires c = omega (arith, c.requires.0, c.requires.1.twelve)
 
 pub returns : goal.returns
 returns c =

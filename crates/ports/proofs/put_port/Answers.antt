@@ -1,55 +1,30 @@
 -- `ports::put_port` meets its contract.
 -- Assumes nothing.
-use mathlib.Core.Path.{refl}
+use mathlib.Core.Path.{refl, ◌∙◌}
 use native.Mathlib.Omega.{arith}
+use Rattle.form.specs.Drawn.{graph_in}
 use Rattle.form.specs.Form.{body_of, body_size}
-use Rattle.form.specs.Stored.{graph_of}
+use Rattle.form.proofs.Drawn.{stored_in}
+use Rattle.form.proofs.Stored.{stored_rows}
 use Rattle.graph.specs.Form.{body}
-use Rattle.write.proofs.Results.{room_same}
 use Rattle.pieces.proofs.Held.{held}
 use Rattle.ports.proofs.Bodies.{ported_put}
 use Rattle.ports.proofs.put_port.Goals as goal
 
 pub copy_numbers-requires : goal.copy_numbers-requires
 copy_numbers-requires c =
-    let p = c.requires in (
-      held p.1.body _ c.body_row-to.ensures _ (omega arith) _ (omega arith),
-      held p.0.body_held _ c.body_row-from.ensures _ refl _ (omega arith),
-    )
-
-pub put_two-requires : goal.put_two-requires
-put_two-requires c =
-    let p = c.requires in
-    (held p.1.body _ c.body_row-to.ensures _ (omega arith) _ (omega arith), p.4, p.5)
+    (held c.requires.0.body _ c.body_row-to.ensures _ refl _ (omega arith), held (stored_rows (stored_in c.args.drawing)).body_held _ c.body-from.ensures _ refl _ (omega arith))
 
 pub copy_numbers-requires-2 : goal.copy_numbers-requires-2
-copy_numbers-requires-2 c =
-    let p = c.requires in (
-      held p.1.body _ c.body_row-to.ensures _ (omega arith) _ (omega arith),
-      held p.0.body_held _ c.body_row-from.ensures _ refl _ (omega arith),
-    )
-
-pub put_number-requires : goal.put_number-requires
-put_number-requires c =
-    let p = c.requires in
-    let l = p.0.low in
-    (held p.1.body _ c.body_row-to.ensures _ (omega arith) _ (omega arith), omega arith)
-
-pub overflow_add-new-2 : goal.overflow_add-new-2
-overflow_add-new-2 c =
-    let p = c.requires in
-    let l = p.0.low in
-    omega arith
-
-pub put_rest-requires : goal.put_rest-requires
-put_rest-requires c =
-    let p = c.requires in
-    (p.0, room_same p.1 _ (omega arith), omega arith, omega arith)
+copy_numbers-requires-2 c = (
+  held c.requires.0.body _ c.body_row-to.ensures _ (c.put_two.auto.out ∙ c.copy_numbers.auto.d) _ (omega arith),
+  held (stored_rows (stored_in c.args.drawing)).body_held _ c.body-from.ensures _ refl _ (omega arith),
+)
 
 pub returns : goal.returns
 returns c =
     let a = c.args in
-    let p = c.requires in
+    let d = a.drawing in
     rw (
       c.put_rest.ensures.stored,
       c.put_number.ensures,
@@ -57,6 +32,6 @@ returns c =
       c.put_two.ensures,
       c.copy_numbers.ensures,
       c.body_row-to.ensures,
-      c.body_row-from.ensures,
+      c.body-from.ensures,
     )
-    (ported_put a.out.now a.src.now (body_of a.y) (body_of a.z) (body_size a.z) (body (graph_of a.src.now)) p.0.body a.p a.k a.z.nodes p.3)
+    (ported_put a.out.now d.src.now (body_of a.y) (body_of d.sizes) (body_size d.sizes) (body (graph_in d)) (stored_rows (stored_in d)).body a.p a.k d.sizes.nodes c.requires.2)

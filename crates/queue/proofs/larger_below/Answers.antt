@@ -3,7 +3,6 @@
 use native.Mathlib.Omega.{arith}
 use Rattle.le.specs.Le.{words}
 use Rattle.queue.proofs.Stored.{larger_left, larger_right}
-use borrow.Author.Rules.{rules}
 use Rattle.queue.proofs.larger_below.Goals as goal
 
 pub returns-then-a-b : goal.returns-then-a-b

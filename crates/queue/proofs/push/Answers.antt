@@ -2,11 +2,9 @@
 -- Assumes nothing.
 use mathlib.Core.List.{List}
 use mathlib.Core.Path.{sym, subst}
-use Prim.Native.Nat.{ℕ, ◌+◌, ◌*◌, ◌≤◌}
-use native.Mathlib.Omega.{arith}
-use lib.ListN.{length}
+use Prim.Native.Nat.{ℕ}
 use Rattle.le.specs.Le.{words}
-use Rattle.le.proofs.Places.{length_words}
+use Rattle.le.proofs.Places.{in_words}
 use Rattle.queue.specs.Places.{Added}
 use Rattle.queue.proofs.Stored.{rises_put}
 use Rattle.queue.proofs.push.Goals as goal
@@ -17,5 +15,4 @@ returns c =
     let o = c.sift_up-gap in
     let w = c.put_key in
     let W = words a.room.now in
-    let fits : a.base + 2 * (a.n + 1) ≤ length W = omega (arith, length_words a.room.now) in
-    subst (λ (X : List ℕ). Added W X a.base a.n a.k) (sym w.ensures) (rises_put W a.base a.n a.k fits (words o.new.room) o.result o.ensures)
+    subst (λ (X : List ℕ). Added W X a.base a.n a.k) (sym w.ensures) (rises_put W a.base a.n a.k (in_words a.room.now _ c.requires.n_in_bounds) (words o.new.room) o.result o.ensures)

@@ -2,44 +2,24 @@
 -- Assumes nothing.
 use mathlib.Core.List.{List}
 use mathlib.Core.Path.{◌≡◌, refl, sym, ap, ◌∙◌, subst}
-use Prim.Native.Nat.{ℕ, ◌+◌, ◌-◌, ◌*◌, ◌/◌, ◌≤◌}
+use Prim.Native.Nat.{ℕ, ◌-◌, ◌/◌}
 use native.Mathlib.Omega.{arith}
-use lib.ListN.{length}
 use Rattle.le.specs.Le.{words}
-use Rattle.le.proofs.Places.{length_words}
+use Rattle.le.proofs.Places.{in_words}
 use Rattle.queue.specs.Places.{key_at, placed}
 use Rattle.queue.proofs.Stored.{RisingIn, rising_start, rising_turn, rising_stop}
 use Rattle.queue.proofs.sift_up.Goals as goal
-use Rattle.queue.proofs.sift_up.Goals.{After-loop-gap, After-slice_known-1, After-slice_known-in-loop-gap-1, Then-k-p}
-
-fits : (c : After-slice_known-1) → c.args.base + 2 * (c.args.n + 1) ≤ length (words c.args.room.now)
-fits c = omega (arith, length_words c.args.room.now)
-
-fits_2 : (c : Then-k-p) → c.args.base + 2 * (c.args.n + 1) ≤ length (words c.args.room.now)
-fits_2 c = omega (arith, length_words c.args.room.now)
-
-fits_3 : (c : After-slice_known-in-loop-gap-1) → c.args.base + 2 * (c.args.n + 1) ≤ length (words c.args.room.now)
-fits_3 c = omega (arith, length_words c.args.room.now)
-
-fits_4 : (c : After-loop-gap) → c.args.base + 2 * (c.args.n + 1) ≤ length (words c.args.room.now)
-fits_4 c = omega (arith, length_words c.args.room.now)
 
 pub loop-gap-init : goal.loop-gap-init
 loop-gap-init c =
     let a = c.args in
-    (rising_start (words a.room.now) a.base a.n a.k (fits c) c.requires.heap, refl)
-
-pub key_at-p-requires : goal.key_at-p-requires
-key_at-p-requires c = omega (arith, c.loop-gap.invariant.0.rising.inside)
+    (rising_start (words a.room.now) a.base a.n a.k (in_words c.args.room.now _ c.requires.n_in_bounds) c.requires.heap, refl)
 
 pub returns-then-k-p : goal.returns-then-k-p
 returns-then-k-p c =
     let a = c.args in
     let l = c.loop-gap in
-    rising_stop (words a.room.now) a.base a.n a.k (fits_2 c) (words l.room) l.gap l.invariant.0 (λ p. omega (arith, c.key_at-p.ensures))
-
-pub put_key-requires : goal.put_key-requires
-put_key-requires c = omega (arith, c.loop-gap.invariant.0.rising.inside)
+    rising_stop (words a.room.now) a.base a.n a.k (in_words c.args.room.now _ c.requires.n_in_bounds) (words l.room) l.gap l.invariant.0 (λ p. omega (arith, c.key_at-p.ensures))
 
 pub loop-gap-preserved : goal.loop-gap-preserved
 loop-gap-preserved c =
@@ -51,12 +31,6 @@ loop-gap-preserved c =
     let X = words l.room in
     let is : words w.new.room ≡ placed X a.base l.gap (key_at X a.base ((l.gap - 1) / 2)) = w.ensures ∙ ap (placed X a.base l.gap) k.ensures in (
       subst (λ (Y : List ℕ). RisingIn W Y a.base a.n a.k ((l.gap - 1) / 2)) (sym is)
-          (rising_turn W a.base a.n a.k (fits_3 c) X l.gap l.invariant.0 (omega arith) (omega (arith, k.ensures))),
+          (rising_turn W a.base a.n a.k (in_words c.args.room.now _ c.requires.n_in_bounds) X l.gap l.invariant.0 (omega arith) (omega (arith, k.ensures))),
       w.auto.room ∙ l.invariant.1,
     )
-
-pub returns : goal.returns
-returns c =
-    let a = c.args in
-    let l = c.loop-gap in
-    rising_stop (words a.room.now) a.base a.n a.k (fits_4 c) (words l.room) l.gap l.invariant.0 (λ p. absurd (omega arith))

@@ -2,11 +2,10 @@
 -- Assumes nothing.
 use mathlib.Core.List.{List}
 use mathlib.Core.Path.{sym, subst}
-use Prim.Native.Nat.{ℕ, ◌+◌, ◌*◌, ◌≤◌}
+use Prim.Native.Nat.{ℕ}
 use native.Mathlib.Omega.{arith}
-use lib.ListN.{length}
 use Rattle.le.specs.Le.{words}
-use Rattle.le.proofs.Places.{length_words}
+use Rattle.le.proofs.Places.{in_words}
 use Rattle.queue.specs.Places.{Replaced}
 use Rattle.queue.proofs.Stored.{sinks_put, keys_length}
 use Rattle.queue.proofs.sink.Goals as goal
@@ -23,5 +22,4 @@ returns c =
     let o = c.sift_down-gap in
     let w = c.put_key in
     let W = words a.room.now in
-    let fits : a.base + 2 * a.n ≤ length W = omega (arith, length_words a.room.now) in
-    subst (λ (X : List ℕ). Replaced W X a.base a.n a.k) (sym w.ensures) (sinks_put W a.base a.n a.k fits (words o.new.room) o.result o.ensures)
+    subst (λ (X : List ℕ). Replaced W X a.base a.n a.k) (sym w.ensures) (sinks_put W a.base a.n a.k (in_words a.room.now _ c.requires.n_nonzero.1) (words o.new.room) o.result o.ensures)

@@ -9,21 +9,17 @@ use Rattle.le.proofs.Rows.{holds_index}
 use Rattle.write.proofs.Results.{put_none}
 use native.Mathlib.Omega.{arith}
 use Rattle.quotient.proofs.put_class_label.Goals as goal
-use Rattle.quotient.proofs.put_class_label.Goals.{After-number, After-slice_known-2-1}
+use Rattle.quotient.proofs.put_class_label.Goals.{Else-class-j}
 
 -- the class is the next one, and there is room for its label
-fits : (c : After-slice_known-2-1) → Holds c.args.out.now c.args.to (c.args.j + 1)
+fits : (c : Else-class-j) → Holds c.args.out.now c.args.to (c.args.j + 1)
 fits c = rw (eq-eqb _ _ (sym c.word-class.ensures ∙ c.if-class-j.false)) at c.requires.2
-
--- the class is the next one, and there is room for its label
-fits_2 : (c : After-number) → Holds c.args.out.now c.args.to (c.args.j + 1)
-fits_2 c = rw (eq-eqb _ _ (sym c.word-class.ensures ∙ c.if-class-j.false)) at c.requires.2
 
 pub returns-then-class-j : goal.returns-then-class-j
 returns-then-class-j c = rw (ne_eqb _ _ (λ q. c.if-class-j.true (c.word-class.ensures ∙ q))) put_none
 
 pub overflow_add-result : goal.overflow_add-result
-overflow_add-result c = omega (arith, holds_index (fits c))
+overflow_add-result c = omega (arith, holds_index (fits (goal.at.overflow_add-result c).Else-class-j))
 
 pub returns : goal.returns
 returns c =
@@ -32,4 +28,4 @@ returns c =
     (record { stored = c.put_number.ensures ∙ ap (λ (v : ℕ). puts a.out.now a.to a.j (v ∷ [])) c.number.ensures.0; next = refl })
 
 pub put_number-requires : goal.put_number-requires
-put_number-requires c = (fits_2 c, c.number.ensures.1)
+put_number-requires c = (fits (goal.at.put_number-requires c).Else-class-j, c.number.ensures.1)

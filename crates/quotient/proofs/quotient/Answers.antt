@@ -5,299 +5,137 @@ use mathlib.Core.Path.{◌≡◌, refl, sym, ap, ◌∙◌, subst}
 use Prim.Native.Nat.{ℕ, ◌*◌, ◌≤◌}
 use native.Mathlib.Nat.{mul-le-mul_left}
 use lib.ListN.{length}
-use Rattle.form.specs.Form.{counts_of, sizes_of, GivesMap}
-use Rattle.form.specs.Stored.{graph_of, Stored}
-use Rattle.form.specs.declared.Outcome.TheVariants.{Done}
-use Rattle.form.specs.declared.Outcome.{Outcome}
+use Rattle.std.specs.Prelude.{Ok}
+use Rattle.std.specs.Prelude.{Result as Returned}
+use Rattle.form.specs.Form.{sizes_of, GivesMap}
+use Rattle.form.specs.Drawn.{graph_in}
+use Rattle.form.proofs.Drawn.{stored_in, at_source}
+use Rattle.form.specs.declared.Done.{Done}
+use Rattle.form.specs.declared.Refusal.{Refusal}
 use Rattle.form.specs.declared.Sizes.{Sizes}
-use Rattle.graph.specs.Answer.{Answer, Result, answered}
-use Rattle.graph.specs.Calls.{Next, in_work_room, nodes_merged, room_quotient, quotient_call}
-use Rattle.graph.specs.Merge as merge
+use Rattle.graph.specs.Answer.{Answer, Result}
+use Rattle.graph.specs.Calls.{room_quotient, nodes_merged, quotient_call}
 use Rattle.graph.specs.Merge.{merged}
 use Rattle.graph.specs.Versions.{fitting}
 use Rattle.le.specs.Le.{words}
 use Rattle.le.specs.Rows.{Holds, row_at}
 use Rattle.le.proofs.Rows.{holds_less}
-use Rattle.write.specs.Write.{fitted}
 use Rattle.classes.specs.Forest.{Tabled}
-use Rattle.form.proofs.Answers.{number_refused, number_answered, passed_on, passed_read, work_short, work_enough, room_enough, gives_map_refused, gives_map_done}
-use Rattle.form.proofs.Stored.{unread, stored_rows, stored_bytes, nodes_are}
+use Rattle.form.proofs.Answers.{refused_so, work_short, work_enough, room_enough, gives_map_passed, gives_map_done}
+use Rattle.form.proofs.Stored.{unread, stored_rows, nodes_are}
+use Rattle.write.proofs.Calls.{next}
 use Rattle.write.proofs.Results.{Fits, result_refused, result_fits, fits_room, drawn_whole}
 use Rattle.quotient.specs.Merging.{Mapped}
-use Rattle.quotient.proofs.Calls.{nodes_roomy, told_refused, told_answered, merged_unread, merged_differ, merged_refused, merged_no_map, merged_done, map_put}
+use Rattle.quotient.proofs.Calls.{Told, nodes_roomy, classes_told, merged_unread, merged_differ, merged_refused, merged_no_map, merged_done, map_put}
 use Rattle.quotient.proofs.Parts.{sizes_are}
 use native.Mathlib.Omega.{arith}
 use Rattle.quotient.proofs.quotient.Goals as goal
-use Rattle.quotient.proofs.quotient.Goals.{After-copy_numbers-arg-1, After-map_classes-arg-1, After-put_merged-arg-1, After-refusal, After-refusal-in_default-fit, After-refusal-in_default-graph, After-refusal-in_default-merging, After-refusal-in_default-size, After-sized-y, After-slice_known-6-1, After-struct_known-1}
+use Rattle.quotient.proofs.quotient.Goals.{After-sized-y, In_ok-bytes, In_ok-nodes, In_ok-work_room-2, In_ok-drawing}
 
--- the call in work room enough
-abbrev call : After-refusal → Answer Result
-call c = nodes_merged c.args.src.now (length c.args.out.now) (length c.args.map.now)
+-- there is a word of room for each of its nodes
+roomy : (c : In_ok-drawing) → 4 * c.in_ok-drawing.drawing.sizes.nodes ≤ length c.args.room.now
+roomy c = nodes_roomy (stored_in c.in_ok-drawing.drawing) (room_enough room_quotient _ c.in_ok-work_room.ensures)
 
--- the call in work room enough
-abbrev call_2 : After-refusal-in_default-graph → Answer Result
-call_2 c = nodes_merged c.args.src.now (length c.args.out.now) (length c.args.map.now)
-
-enough : (c : After-refusal-in_default-graph) → in_work_room room_quotient (length c.args.room.now) (call_2 c) ≡ call_2 c
-enough c = work_enough room_quotient _ (call_2 c) c.work_room-lent.result c.work_room-lent.ensures _ c.in-Number.is
-
--- the form that was read: there is a word of room for each of its nodes
-form : (c : After-map_classes-arg-1) → Stored c.args.src.now c.in-Sized.z
-form c = stored_bytes c.read-graph.ensures c.type_inv.src c.in-Sized.is
-
-roomy : (c : After-map_classes-arg-1) → 4 * c.in-Sized.z.nodes ≤ length c.args.room.now
-roomy c = nodes_roomy (form c) (room_enough room_quotient _ c.work_room-lent.result c.work_room-lent.ensures _ c.in-Number.is)
-
--- the call in work room enough
-abbrev call_3 : After-refusal-in_default-merging → Answer Result
-call_3 c = nodes_merged c.args.src.now (length c.args.out.now) (length c.args.map.now)
-
-enough_2 : (c : After-refusal-in_default-merging) → in_work_room room_quotient (length c.args.room.now) (call_3 c) ≡ call_3 c
-enough_2 c = work_enough room_quotient _ (call_3 c) c.work_room-lent.result c.work_room-lent.ensures _ c.in-Number.is
-
--- the form that was read: there is a word of room for each of its nodes
-form_2 : (c : After-refusal-in_default-merging) → Stored c.args.src.now c.in-Sized.z
-form_2 c = stored_bytes c.read-graph.ensures c.type_inv.src c.in-Sized.is
-
--- the merged graph, and its sizes
-abbrev left : After-sized-y → Next
-left c = record { graph = (merged (graph_of c.args.src.now)).graph; id = 0 }
-
--- the form that was read: there is a word of room for each of its nodes
-form_3 : (c : After-sized-y) → Stored c.args.src.now c.in-Sized.z
-form_3 c = stored_bytes c.read-graph.ensures c.type_inv.src c.in-Sized.is
+-- what the call answers of the bytes that were read, it answers of those that were lent
+answers : (c : In_ok-drawing) (x : Answer Result)
+    → nodes_merged c.in_ok-drawing.drawing.src.now (length c.args.out.now) (length c.args.map.now) ≡ x
+    → quotient_call c.args.src.now (length c.args.out.now) (length c.args.map.now) (length c.args.room.now) ≡ x
+answers c x e =
+    work_enough room_quotient _ _ c.in_ok-work_room.ensures
+    ∙ at_source (λ b. nodes_merged b (length c.args.out.now) (length c.args.map.now) ≡ x) c.in_ok-drawing.ensures.source e
 
 -- the classes that were found, and their map
-told : (c : After-sized-y) → (merge.quotient (graph_of c.args.src.now) ≡ answered (merged (graph_of c.args.src.now))) × (c.in-Number-merging.nodes ≡ length (merged (graph_of c.args.src.now)).graph.labels) × Tabled (length (graph_of c.args.src.now).labels) (merged (graph_of c.args.src.now)).ids (words c.map_classes-merging.new.room)
-told c = told_answered (graph_of c.args.src.now) _ c.map_classes-merging.result c.map_classes-merging.ensures _ c.in-Number-merging.is
+told : (c : In_ok-nodes) → Told c.in_ok-drawing.drawing.src.now c.in_ok-nodes.nodes c.map_classes.new.room
+told c = classes_told c.in_ok-nodes.ensures
 
-sizes : (c : After-sized-y) → c.sized-y.result ≡ sizes_of (fitting (left c).graph) (left c).graph
-sizes c = sizes_are (form_3 c) c.sized-y.ensures (told c).1
-
--- the call in work room enough
-abbrev call_4 : After-refusal-in_default-size → Answer Result
-call_4 c = nodes_merged c.args.src.now (length c.args.out.now) (length c.args.map.now)
-
-enough_3 : (c : After-refusal-in_default-size) → in_work_room room_quotient (length c.args.room.now) (call_4 c) ≡ call_4 c
-enough_3 c = work_enough room_quotient _ (call_4 c) c.work_room-lent.result c.work_room-lent.ensures _ c.in-Number.is
-
--- the form that was read: there is a word of room for each of its nodes
-form_4 : (c : After-refusal-in_default-size) → Stored c.args.src.now c.in-Sized.z
-form_4 c = stored_bytes c.read-graph.ensures c.type_inv.src c.in-Sized.is
-
--- the classes that were found, and their map
-told_2 : (c : After-refusal-in_default-size) → (merge.quotient (graph_of c.args.src.now) ≡ answered (merged (graph_of c.args.src.now))) × (c.in-Number-merging.nodes ≡ length (merged (graph_of c.args.src.now)).graph.labels) × Tabled (length (graph_of c.args.src.now).labels) (merged (graph_of c.args.src.now)).ids (words c.map_classes-merging.new.room)
-told_2 c = told_answered (graph_of c.args.src.now) _ c.map_classes-merging.result c.map_classes-merging.ensures _ c.in-Number-merging.is
-
--- the merged graph, and its sizes
-abbrev left_2 : After-refusal-in_default-size → Next
-left_2 c = record { graph = (merged (graph_of c.args.src.now)).graph; id = 0 }
-
-sizes_2 : (c : After-refusal-in_default-size) → c.sized-y.result ≡ sizes_of (fitting (left_2 c).graph) (left_2 c).graph
-sizes_2 c = sizes_are (form_4 c) c.sized-y.ensures (told_2 c).1
-
--- the form that was read: there is a word of room for each of its nodes
-form_5 : (c : After-struct_known-1) → Stored c.args.src.now c.in-Sized.z
-form_5 c = stored_bytes c.read-graph.ensures c.type_inv.src c.in-Sized.is
-
--- the call in work room enough
-abbrev call_5 : After-refusal-in_default-fit → Answer Result
-call_5 c = nodes_merged c.args.src.now (length c.args.out.now) (length c.args.map.now)
-
-enough_4 : (c : After-refusal-in_default-fit) → in_work_room room_quotient (length c.args.room.now) (call_5 c) ≡ call_5 c
-enough_4 c = work_enough room_quotient _ (call_5 c) c.work_room-lent.result c.work_room-lent.ensures _ c.in-Number.is
-
--- the form that was read: there is a word of room for each of its nodes
-form_6 : (c : After-refusal-in_default-fit) → Stored c.args.src.now c.in-Sized.z
-form_6 c = stored_bytes c.read-graph.ensures c.type_inv.src c.in-Sized.is
-
--- the classes that were found, and their map
-told_3 : (c : After-refusal-in_default-fit) → (merge.quotient (graph_of c.args.src.now) ≡ answered (merged (graph_of c.args.src.now))) × (c.in-Number-merging.nodes ≡ length (merged (graph_of c.args.src.now)).graph.labels) × Tabled (length (graph_of c.args.src.now).labels) (merged (graph_of c.args.src.now)).ids (words c.map_classes-merging.new.room)
-told_3 c = told_answered (graph_of c.args.src.now) _ c.map_classes-merging.result c.map_classes-merging.ensures _ c.in-Number-merging.is
-
-roomy_2 : (c : After-refusal-in_default-fit) → 4 * c.in-Sized.z.nodes ≤ length c.args.room.now
-roomy_2 c = nodes_roomy (form_6 c) (room_enough room_quotient _ c.work_room-lent.result c.work_room-lent.ensures _ c.in-Number.is)
-
-mapped : (c : After-refusal-in_default-fit) → Mapped c.args.src.now c.in-Sized.z c.map_classes-merging.new.room
-mapped c = let f = form_6 c in
-    let h = roomy_2 c in
+mapped : (c : In_ok-nodes) → Mapped c.in_ok-drawing.drawing c.map_classes.new.room
+mapped c =
+    let d = c.in_ok-drawing.drawing in
+    let f = stored_in d in
+    let h = nodes_roomy f (room_enough room_quotient _ c.in_ok-work_room.ensures) in
     record {
-      stored = f;
-      held = omega (arith, c.map_classes-merging.auto.room);
-      map = subst (λ (n : ℕ). Tabled n (merged (graph_of c.args.src.now)).ids (words c.map_classes-merging.new.room)) (nodes_are (stored_rows f)) (told_3 c).2;
+      held = omega (arith, c.map_classes.auto.room);
+      map = subst (λ (n : ℕ). Tabled n (merged (graph_in d)).ids (words c.map_classes.new.room)) (nodes_are (stored_rows f)) (told c).map;
     }
 
--- the merged graph, and its sizes
-abbrev left_3 : After-refusal-in_default-fit → Next
-left_3 c = record { graph = (merged (graph_of c.args.src.now)).graph; id = 0 }
+-- the sizes of the merged graph
+sizes : (c : After-sized-y) → c.sized-y.result ≡ sizes_of (fitting (merged (graph_in c.in_ok-drawing.drawing)).graph) (merged (graph_in c.in_ok-drawing.drawing)).graph
+sizes c = sizes_are (stored_in c.in_ok-drawing.drawing) c.sized-y.ensures (classes_told c.in_ok-nodes.ensures).count
 
-sizes_3 : (c : After-refusal-in_default-fit) → c.sized-y.result ≡ sizes_of (fitting (left_3 c).graph) (left_3 c).graph
-sizes_3 c = sizes_are (form_6 c) c.sized-y.ensures (told_3 c).1
+-- it can be written
+fits : (c : In_ok-bytes) → Fits (next (merged (graph_in c.in_ok-drawing.drawing)).graph 0) c.sized-y.result (length c.args.out.now) c.in_ok-bytes.bytes
+fits c =
+    result_fits (next (merged (graph_in c.in_ok-drawing.drawing)).graph 0) c.sized-y.result
+    (sizes_are (stored_in c.in_ok-drawing.drawing) c.sized-y.ensures (classes_told c.in_ok-nodes.ensures).count) (length c.args.out.now) _ (sym c.in_ok-bytes.ensures)
 
--- it can be written, and there is room for the map
-fits : (c : After-refusal-in_default-fit) → Fits (left_3 c) c.sized-y.result (length c.args.out.now) c.in-Number-size.bytes
-fits c = result_fits (left_3 c) c.sized-y.result (sizes_3 c) (length c.args.out.now) _ (number_answered _ c.result_size-size.result c.result_size-size.ensures _ c.in-Number-size.is)
+-- there is room for the map
+map_enough : (c : In_ok-work_room-2) → c.in_ok-drawing.drawing.sizes.nodes * c.in_ok-drawing.drawing.sizes.width ≤ length c.args.map.now
+map_enough c = room_enough _ (length c.args.map.now) c.in_ok-work_room-2.ensures
 
--- the form that was read: there is a word of room for each of its nodes
-form_7 : (c : After-copy_numbers-arg-1) → Stored c.args.src.now c.in-Sized.z
-form_7 c = stored_bytes c.read-graph.ensures c.type_inv.src c.in-Sized.is
+pub returns-in_err-work_room : goal.returns-in_err-work_room
+returns-in_err-work_room c = gives_map_passed _ _ _ c.from_residual.ensures.1 (work_short room_quotient _ _ _ c.in_err-work_room.ensures)
 
-roomy_3 : (c : After-copy_numbers-arg-1) → 4 * c.in-Sized.z.nodes ≤ length c.args.room.now
-roomy_3 c = nodes_roomy (form_7 c) (room_enough room_quotient _ c.work_room-lent.result c.work_room-lent.ensures _ c.in-Number.is)
+pub returns-in_err-drawing : goal.returns-in_err-drawing
+returns-in_err-drawing c =
+    gives_map_passed _ _ _ c.from_residual-in_err-drawing.ensures.1
+    (work_enough room_quotient _ _ c.in_ok-work_room.ensures ∙ merged_unread c.args.src.now _ _ _ (unread _ _ c.in_err-drawing.ensures.sizes))
 
--- the classes that were found, and their map
-told_4 : (c : After-copy_numbers-arg-1) → (merge.quotient (graph_of c.args.src.now) ≡ answered (merged (graph_of c.args.src.now))) × (c.in-Number-merging.nodes ≡ length (merged (graph_of c.args.src.now)).graph.labels) × Tabled (length (graph_of c.args.src.now).labels) (merged (graph_of c.args.src.now)).ids (words c.map_classes-merging.new.room)
-told_4 c = told_answered (graph_of c.args.src.now) _ c.map_classes-merging.result c.map_classes-merging.ensures _ c.in-Number-merging.is
+pub map_classes-requires : goal.map_classes-requires
+map_classes-requires c = roomy (goal.at.map_classes-requires c).In_ok-drawing
 
-mapped_2 : (c : After-copy_numbers-arg-1) → Mapped c.args.src.now c.in-Sized.z c.map_classes-merging.new.room
-mapped_2 c = let f = form_7 c in
-    let h = roomy_3 c in
-    record {
-      stored = f;
-      held = omega (arith, c.map_classes-merging.auto.room);
-      map = subst (λ (n : ℕ). Tabled n (merged (graph_of c.args.src.now)).ids (words c.map_classes-merging.new.room)) (nodes_are (stored_rows f)) (told_4 c).2;
-    }
+pub returns-in_err-nodes : goal.returns-in_err-nodes
+returns-in_err-nodes c =
+    let d = c.in_ok-drawing.drawing in
+    gives_map_passed _ _ _ c.from_residual-in_err-nodes.ensures.1
+    (answers (goal.at.returns-in_err-nodes c).In_ok-drawing _ (merged_differ d.src.now _ _ (stored_in d) _ (refused_so _ _ _ c.in_err-nodes.ensures.answer)))
 
-enough_map_lem : (c : After-copy_numbers-arg-1) → c.in-Sized.z.nodes * c.in-Sized.z.width ≤ length c.args.map.now
-enough_map_lem c = room_enough _ (length c.args.map.now) c.work_room-fit.result c.work_room-fit.ensures _ c.in-Number-fit.is
-
-map_held : (c : After-copy_numbers-arg-1) → Holds c.args.map.now (row_at 0 c.in-Sized.z.width) c.in-Sized.z.nodes
-map_held c = record { wide = (stored_rows (form_7 c)).low.width; inside = omega (arith, enough_map_lem c) }
-
--- the form that was read: there is a word of room for each of its nodes
-form_8 : (c : After-put_merged-arg-1) → Stored c.args.src.now c.in-Sized.z
-form_8 c = stored_bytes c.read-graph.ensures c.type_inv.src c.in-Sized.is
-
-roomy_4 : (c : After-put_merged-arg-1) → 4 * c.in-Sized.z.nodes ≤ length c.args.room.now
-roomy_4 c = nodes_roomy (form_8 c) (room_enough room_quotient _ c.work_room-lent.result c.work_room-lent.ensures _ c.in-Number.is)
-
--- the classes that were found, and their map
-told_5 : (c : After-put_merged-arg-1) → (merge.quotient (graph_of c.args.src.now) ≡ answered (merged (graph_of c.args.src.now))) × (c.in-Number-merging.nodes ≡ length (merged (graph_of c.args.src.now)).graph.labels) × Tabled (length (graph_of c.args.src.now).labels) (merged (graph_of c.args.src.now)).ids (words c.map_classes-merging.new.room)
-told_5 c = told_answered (graph_of c.args.src.now) _ c.map_classes-merging.result c.map_classes-merging.ensures _ c.in-Number-merging.is
-
-mapped_3 : (c : After-put_merged-arg-1) → Mapped c.args.src.now c.in-Sized.z c.map_classes-merging.new.room
-mapped_3 c = let f = form_8 c in
-    let h = roomy_4 c in
-    record {
-      stored = f;
-      held = omega (arith, c.map_classes-merging.auto.room);
-      map = subst (λ (n : ℕ). Tabled n (merged (graph_of c.args.src.now)).ids (words c.map_classes-merging.new.room)) (nodes_are (stored_rows f)) (told_5 c).2;
-    }
-
--- the merged graph, and its sizes
-abbrev left_4 : After-put_merged-arg-1 → Next
-left_4 c = record { graph = (merged (graph_of c.args.src.now)).graph; id = 0 }
-
-sizes_4 : (c : After-put_merged-arg-1) → c.sized-y.result ≡ sizes_of (fitting (left_4 c).graph) (left_4 c).graph
-sizes_4 c = sizes_are (form_8 c) c.sized-y.ensures (told_5 c).1
-
--- it can be written, and there is room for the map
-fits_2 : (c : After-put_merged-arg-1) → Fits (left_4 c) c.sized-y.result (length c.args.out.now) c.in-Number-size.bytes
-fits_2 c = result_fits (left_4 c) c.sized-y.result (sizes_4 c) (length c.args.out.now) _ (number_answered _ c.result_size-size.result c.result_size-size.ensures _ c.in-Number-size.is)
-
--- the call in work room enough
-abbrev call_6 : After-slice_known-6-1 → Answer Result
-call_6 c = nodes_merged c.args.src.now (length c.args.out.now) (length c.args.map.now)
-
-enough_5 : (c : After-slice_known-6-1) → in_work_room room_quotient (length c.args.room.now) (call_6 c) ≡ call_6 c
-enough_5 c = work_enough room_quotient _ (call_6 c) c.work_room-lent.result c.work_room-lent.ensures _ c.in-Number.is
-
--- the form that was read: there is a word of room for each of its nodes
-form_9 : (c : After-slice_known-6-1) → Stored c.args.src.now c.in-Sized.z
-form_9 c = stored_bytes c.read-graph.ensures c.type_inv.src c.in-Sized.is
-
--- the classes that were found, and their map
-told_6 : (c : After-slice_known-6-1) → (merge.quotient (graph_of c.args.src.now) ≡ answered (merged (graph_of c.args.src.now))) × (c.in-Number-merging.nodes ≡ length (merged (graph_of c.args.src.now)).graph.labels) × Tabled (length (graph_of c.args.src.now).labels) (merged (graph_of c.args.src.now)).ids (words c.map_classes-merging.new.room)
-told_6 c = told_answered (graph_of c.args.src.now) _ c.map_classes-merging.result c.map_classes-merging.ensures _ c.in-Number-merging.is
-
-roomy_5 : (c : After-slice_known-6-1) → 4 * c.in-Sized.z.nodes ≤ length c.args.room.now
-roomy_5 c = nodes_roomy (form_9 c) (room_enough room_quotient _ c.work_room-lent.result c.work_room-lent.ensures _ c.in-Number.is)
-
-mapped_4 : (c : After-slice_known-6-1) → Mapped c.args.src.now c.in-Sized.z c.map_classes-merging.new.room
-mapped_4 c = let f = form_9 c in
-    let h = roomy_5 c in
-    record {
-      stored = f;
-      held = omega (arith, c.map_classes-merging.auto.room);
-      map = subst (λ (n : ℕ). Tabled n (merged (graph_of c.args.src.now)).ids (words c.map_classes-merging.new.room)) (nodes_are (stored_rows f)) (told_6 c).2;
-    }
-
--- the merged graph, and its sizes
-abbrev left_5 : After-slice_known-6-1 → Next
-left_5 c = record { graph = (merged (graph_of c.args.src.now)).graph; id = 0 }
-
-sizes_5 : (c : After-slice_known-6-1) → c.sized-y.result ≡ sizes_of (fitting (left_5 c).graph) (left_5 c).graph
-sizes_5 c = sizes_are (form_9 c) c.sized-y.ensures (told_6 c).1
-
--- it can be written, and there is room for the map
-fits_3 : (c : After-slice_known-6-1) → Fits (left_5 c) c.sized-y.result (length c.args.out.now) c.in-Number-size.bytes
-fits_3 c = result_fits (left_5 c) c.sized-y.result (sizes_5 c) (length c.args.out.now) _ (number_answered _ c.result_size-size.result c.result_size-size.ensures _ c.in-Number-size.is)
-
-enough_map_lem_2 : (c : After-slice_known-6-1) → c.in-Sized.z.nodes * c.in-Sized.z.width ≤ length c.args.map.now
-enough_map_lem_2 c = room_enough _ (length c.args.map.now) c.work_room-fit.result c.work_room-fit.ensures _ c.in-Number-fit.is
-
-pub returns-in_default : goal.returns-in_default
-returns-in_default c = gives_map_refused _ _ _ (work_short room_quotient _ (call c) c.work_room-lent.result c.work_room-lent.ensures _ (passed_on c.in_default.is c.refusal.ensures))
-
-pub returns-in_default-graph : goal.returns-in_default-graph
-returns-in_default-graph c =
-    let b = c.args.src.now in
-    let r = c.read-graph in
-    gives_map_refused _ _ _ (enough c ∙ merged_unread b _ _ _ (unread b r.result r.ensures _ (passed_read c.in_default-graph.is c.refusal-in_default-graph.ensures)))
-
-pub map_classes-merging-requires : goal.map_classes-merging-requires
-map_classes-merging-requires c = (form c, roomy c)
-
-pub returns-in_default-merging : goal.returns-in_default-merging
-returns-in_default-merging c =
-    let b = c.args.src.now in
-    let r = c.map_classes-merging in
-    gives_map_refused _ _ _ (enough_2 c ∙ merged_differ b _ _ (form_2 c) _ (told_refused (graph_of b) _ r.result r.ensures _ (passed_on c.in_default-merging.is c.refusal-in_default-merging.ensures)))
-
-pub result_size-size-requires : goal.result_size-size-requires
-result_size-size-requires c = sizes c ∙ ap (λ (y : Sizes). fitted (counts_of y) y.ports) (sym (sizes c))
-
-pub returns-in_default-size : goal.returns-in_default-size
-returns-in_default-size c =
-    let a = c.args in
-    let r = c.result_size-size in
-    gives_map_refused _ _ _
-    (enough_3 c ∙ merged_refused a.src.now _ _ (form_4 c) (told_2 c).0 _
-    (result_refused (left_2 c) c.sized-y.result (sizes_2 c) (length a.out.now) _ (number_refused _ r.result r.ensures _ (passed_on c.in_default-size.is c.refusal-in_default-size.ensures))))
+pub returns-in_err-bytes : goal.returns-in_err-bytes
+returns-in_err-bytes c =
+    let at = goal.at.returns-in_err-bytes c in
+    let d = c.in_ok-drawing.drawing in
+    gives_map_passed _ _ _ c.from_residual-in_err-bytes.ensures.1
+    (answers at.In_ok-drawing _
+    (merged_refused d.src.now _ _ (stored_in d) (told at.In_ok-nodes).answers _
+    (result_refused (next (merged (graph_in d)).graph 0) c.sized-y.result (sizes at.After-sized-y) (length c.args.out.now) _ (sym c.in_err-bytes.ensures))))
 
 pub overflow_mul-z : goal.overflow_mul-z
-overflow_mul-z c =
-    let low = (stored_rows (form_5 c)).low in
-    omega (arith, mul-le-mul_left c.in-Sized.z.nodes low.narrow)
+overflow_mul-z c = omega (arith, c.in_ok-drawing.drawing.few, mul-le-mul_left c.in_ok-drawing.drawing.sizes.nodes c.in_ok-drawing.drawing.few.0)
 
-pub returns-in_default-fit : goal.returns-in_default-fit
-returns-in_default-fit c =
-    let r = c.work_room-fit in
-    gives_map_refused _ _ _
-    (enough_4 c ∙ merged_no_map c.args.src.now _ _ (form_6 c) (told_3 c).0 (mapped c).map.long (fits c).makes r.result r.ensures _ (passed_on c.in_default-fit.is c.refusal-in_default-fit.ensures))
+pub returns-in_err-work_room-2 : goal.returns-in_err-work_room-2
+returns-in_err-work_room-2 c =
+    let at = goal.at.returns-in_err-work_room-2 c in
+    let d = c.in_ok-drawing.drawing in
+    gives_map_passed _ _ _ c.from_residual-in_err-work_room-2.ensures.1
+    (answers at.In_ok-drawing _
+    (merged_no_map d.src.now _ _ (stored_in d) (told at.In_ok-nodes).answers (mapped at.In_ok-nodes).map.long (fits at.In_ok-bytes).makes _
+    c.in_err-work_room-2.ensures))
 
 pub copy_numbers-requires : goal.copy_numbers-requires
-copy_numbers-requires c = (holds_less (map_held c) _ (omega arith), record { wide = inr refl; inside = omega (arith, (mapped_2 c).held) })
+copy_numbers-requires c =
+    let at = goal.at.copy_numbers-requires c in
+    let z = c.in_ok-drawing.drawing.sizes in
+    let held : Holds c.args.map.now (row_at 0 z.width) z.nodes = record { wide = (stored_rows (stored_in c.in_ok-drawing.drawing)).low.width; inside = omega (arith, map_enough at.In_ok-work_room-2) } in
+    (holds_less held _ (omega arith), record { wide = inr refl; inside = omega (arith, (mapped at.In_ok-nodes).held) })
 
 pub put_merged-requires : goal.put_merged-requires
-put_merged-requires c = record { mapped = (mapped_3 c, fits_room (fits_2 c) c.args.out.now refl); y_value = sizes_4 c }
+put_merged-requires c =
+    let at = goal.at.put_merged-requires c in
+    record { mapped = (mapped at.In_ok-nodes, fits_room (fits at.In_ok-bytes) c.args.out.now refl); y_value = sizes at.After-sized-y }
 
 pub returns : goal.returns
 returns c =
+    let at = goal.at.returns c in
     let a = c.args in
-    let b = a.src.now in
-    let f = form_9 c in
-    let t = (told_6 c).0 in
-    let m = mapped_4 c in
-    let k = fits_3 c in
-    let r = c.work_room-fit in
-    let long = m.map.long in
-    let g = (left_5 c).graph in
-    let y = c.sized-y.result in
-    let new = c.put_merged.ensures ∙ drawn_whole a.out.now g y (sizes_5 c) (subst (λ (n : ℕ). n ≤ length a.out.now) k.long k.enough) in
-    let table = c.copy_numbers.ensures ∙ map_put b (length a.out.now) (length a.map.now) f t long _ a.map.now m (enough_map_lem_2 c) in
+    let d = c.in_ok-drawing.drawing in
+    let b = d.src.now in
+    let f = stored_in d in
+    let t = (told at.In_ok-nodes).answers in
+    let m = mapped at.In_ok-nodes in
+    let k = fits at.In_ok-bytes in
+    let new = c.put_merged.ensures ∙ drawn_whole a.out.now (merged (graph_in d)).graph c.sized-y.result (sizes at.After-sized-y) (subst (λ (n : ℕ). n ≤ length a.out.now) k.long k.enough) in
+    let table = c.copy_numbers.ensures ∙ map_put b (length a.out.now) (length a.map.now) f t m.map.long _ a.map.now m.held m.map (map_enough at.In_ok-work_room-2) in
     let nodes = ap (λ (z : Sizes). z.nodes) f.sizes in
-    subst (λ (o : Outcome). GivesMap (quotient_call b (length a.out.now) (length a.map.now) (length a.room.now)) o a.out.now c.put_merged.new.out a.map.now c.copy_numbers.new.d)
-    (λ i. Done (sym k.long i) (sym nodes i))
+    subst (λ (o : Returned Done Refusal). GivesMap (quotient_call a.src.now (length a.out.now) (length a.map.now) (length a.room.now)) o a.out.now c.put_merged.new.out a.map.now c.copy_numbers.new.d)
+    (λ i. Ok (record { a = sym k.long i; b = sym nodes i }))
     (gives_map_done _ a.out.now _ a.map.now _
-    (enough_5 c ∙ merged_done b (length a.out.now) (length a.map.now) f t long k.makes r.result r.ensures _ c.in-Number-fit.is) new table)
+    (answers at.In_ok-drawing _ (merged_done b (length a.out.now) (length a.map.now) f t m.map.long k.makes c.in_ok-work_room-2.ensures)) new table)

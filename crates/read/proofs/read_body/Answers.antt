@@ -5,11 +5,14 @@ use Prim.Native.Nat.{ℕ, ◌+◌, ◌*◌}
 use native.Mathlib.Omega.{arith}
 use mathlib.Core.List.{List}
 use lib.ListN.{length, drop}
+use Rattle.graph.specs.Answer.{Answer, refused}
 use Rattle.graph.specs.Form.{header_bytes, edges_place}
 use Rattle.graph.specs.Graph.{Edge}
 use Rattle.graph.specs.Read.{read_edges}
 use Rattle.form.specs.Form.{meant, counts_of}
-use Rattle.form.specs.declared.Reading.TheVariants.{Refused}
+use Rattle.form.specs.declared.Format.{Format}
+use Rattle.form.specs.declared.Sizes.{Sizes}
+use Rattle.edges.specs.declared.Reached.{Reached}
 use Rattle.edges.specs.Steps.{edges_step, settled, CountsThere}
 use Rattle.read.specs.Steps.{measured}
 use Rattle.edges.proofs.Small.{small}
@@ -17,53 +20,16 @@ use Rattle.edges.specs.Walk.{Spans, StandAt}
 use Rattle.edges.proofs.Walk.{stand_spans}
 use Rattle.read.proofs.Whole.{no_labels, edge_refused, went}
 use Rattle.read.proofs.read_body.Goals as goal
-use Rattle.read.proofs.read_body.Goals.{After-count_over, After-read_lists, In-Next, In-Refused}
 
--- the edges, read from the place after the labels
-after_labels : (c : In-Next) → let a = c.args in
-    (labels : List ℕ) → length labels ≡ a.z.edges
-    → settled (meant a.f) a.s.now c.read_edges.result ≡ edges_step (length a.s.now) (read_edges (meant a.f) (length a.s.now) 0 labels (drop (header_bytes (meant a.f) + (a.z.nodes + a.z.edges) * 4) a.s.now))
-after_labels c labels n = let a = c.args in
-    c.read_edges.ensures.1 labels n
-    ∙ ap (λ (at : ℕ). edges_step (length a.s.now) (read_edges (meant a.f) (length a.s.now) 0 labels (drop at a.s.now))) c.labels_end-start.ensures
+-- the edges, read from the place after the labels, and they stand from there
+module _ (f : Format) (b : List ℕ) (z : Sizes) (start : ℕ) (is : start ≡ header_bytes (meant f) + (z.nodes + z.edges) * 4) where
+  after_labels : {r : Answer Reached}
+      → ((labels : List ℕ) → length labels ≡ z.edges → r ≡ edges_step (length b) (read_edges (meant f) (length b) 0 labels (drop start b)))
+      → (labels : List ℕ) → length labels ≡ z.edges → r ≡ edges_step (length b) (read_edges (meant f) (length b) 0 labels (drop (header_bytes (meant f) + (z.nodes + z.edges) * 4) b))
+  after_labels h labels n = h labels n ∙ ap (λ (at : ℕ). edges_step (length b) (read_edges (meant f) (length b) 0 labels (drop at b))) is
 
--- and they stand from there
-from_labels : (c : In-Next) → let a = c.args in
-    (edges : List Edge) (to : ℕ) → StandAt a.f.width a.s.now (edges_place (meant a.f) (counts_of a.z)) edges to
-    → StandAt a.f.width a.s.now c.labels_end-start.result edges to
-from_labels c edges to h = let a = c.args in
-    subst (λ (p : ℕ). StandAt a.f.width a.s.now p edges to) (sym c.labels_end-start.ensures) h
-
--- the edges, read from the place after the labels
-after_labels_2 : (c : After-read_lists) → let a = c.args in
-    (labels : List ℕ) → length labels ≡ a.z.edges
-    → settled (meant a.f) a.s.now c.read_edges.result ≡ edges_step (length a.s.now) (read_edges (meant a.f) (length a.s.now) 0 labels (drop (header_bytes (meant a.f) + (a.z.nodes + a.z.edges) * 4) a.s.now))
-after_labels_2 c labels n = let a = c.args in
-    c.read_edges.ensures.1 labels n
-    ∙ ap (λ (at : ℕ). edges_step (length a.s.now) (read_edges (meant a.f) (length a.s.now) 0 labels (drop at a.s.now))) c.labels_end-start.ensures
-
--- and they stand from there
-from_labels_2 : (c : After-read_lists) → let a = c.args in
-    (edges : List Edge) (to : ℕ) → StandAt a.f.width a.s.now (edges_place (meant a.f) (counts_of a.z)) edges to
-    → StandAt a.f.width a.s.now c.labels_end-start.result edges to
-from_labels_2 c edges to h = let a = c.args in
-    subst (λ (p : ℕ). StandAt a.f.width a.s.now p edges to) (sym c.labels_end-start.ensures) h
-
--- the edges, read from the place after the labels
-after_labels_3 : (c : After-count_over) → let a = c.args in
-    (labels : List ℕ) → length labels ≡ a.z.edges
-    → settled (meant a.f) a.s.now c.read_edges.result ≡ edges_step (length a.s.now) (read_edges (meant a.f) (length a.s.now) 0 labels (drop (header_bytes (meant a.f) + (a.z.nodes + a.z.edges) * 4) a.s.now))
-after_labels_3 c labels n = let a = c.args in
-    c.read_edges.ensures.1 labels n
-    ∙ ap (λ (at : ℕ). edges_step (length a.s.now) (read_edges (meant a.f) (length a.s.now) 0 labels (drop at a.s.now))) c.labels_end-start.ensures
-
--- the edges, read from the place after the labels
-after_labels_4 : (c : In-Refused) → let a = c.args in
-    (labels : List ℕ) → length labels ≡ a.z.edges
-    → settled (meant a.f) a.s.now c.read_edges.result ≡ edges_step (length a.s.now) (read_edges (meant a.f) (length a.s.now) 0 labels (drop (header_bytes (meant a.f) + (a.z.nodes + a.z.edges) * 4) a.s.now))
-after_labels_4 c labels n = let a = c.args in
-    c.read_edges.ensures.1 labels n
-    ∙ ap (λ (at : ℕ). edges_step (length a.s.now) (read_edges (meant a.f) (length a.s.now) 0 labels (drop at a.s.now))) c.labels_end-start.ensures
+  from_labels : (edges : List Edge) (to : ℕ) → StandAt f.width b (edges_place (meant f) (counts_of z)) edges to → StandAt f.width b start edges to
+  from_labels edges to h = subst (λ (p : ℕ). StandAt f.width b p edges to) (sym is) h
 
 pub overflow_add-labels : goal.overflow_add-labels
 overflow_add-labels c = let l = small c.requires.2 in omega arith
@@ -77,32 +43,28 @@ returns-then-s-header c = let a = c.args in no_labels (meant a.f) a.s.now a.z (o
 pub read_lists-requires : goal.read_lists-requires
 read_lists-requires c =
     let a = c.args in
-    let w = went (meant a.f) a.s.now a.z (omega arith) c.requires.0 c.read_edges.result (after_labels c) c.in-Next.ports c.in-Next.at c.in-Next.bound c.in-Next.is in (
+    let r = c.in-Ok.r in
+    let w = went (meant a.f) a.s.now a.z (omega arith) c.requires.0 _ (after_labels a.f a.s.now a.z _ c.labels_end-start.ensures c.read_edges.ensures.1) r (ap (settled (meant a.f) a.s.now) c.in-Ok.is) in (
       w.inside,
       c.requires.1,
       c.requires.2,
-      subst (λ (n : ℕ). Spans a.f.width a.s.now c.labels_end-start.result n c.in-Next.at) w.is_edges
-          (stand_spans a.f.width a.s.now c.in-Next.at c.labels_end-start.result w.edges (from_labels c w.edges c.in-Next.at w.stand)),
+      subst (λ (n : ℕ). Spans a.f.width a.s.now c.labels_end-start.result n r.at) w.is_edges
+          (stand_spans a.f.width a.s.now r.at c.labels_end-start.result w.edges (from_labels a.f a.s.now a.z _ c.labels_end-start.ensures w.edges r.at w.stand)),
     )
 
-pub returns-in-Next : goal.returns-in-Next
-returns-in-Next c =
+pub returns-in-Ok : goal.returns-in-Ok
+returns-in-Ok c =
     let a = c.args in
-    let w = went (meant a.f) a.s.now a.z (omega arith) c.requires.0 c.read_edges.result (after_labels_2 c) c.in-Next.ports c.in-Next.at c.in-Next.bound c.in-Next.is in
-    c.read_lists.ensures (drop (header_bytes (meant a.f)) a.s.now) w.edges w.is_edges w.is_ports w.is_bound c.labels_end-start.ensures (from_labels_2 c w.edges c.in-Next.at w.stand) ∙ sym (ap (measured a.f.width) w.onward)
+    let r = c.in-Ok.r in
+    let w = went (meant a.f) a.s.now a.z (omega arith) c.requires.0 _ (after_labels a.f a.s.now a.z _ c.labels_end-start.ensures c.read_edges.ensures.1) r (ap (settled (meant a.f) a.s.now) c.in-Ok.is) in
+    c.read_lists.ensures (drop (header_bytes (meant a.f)) a.s.now) w.edges w.is_edges w.is_ports w.is_bound c.labels_end-start.ensures (from_labels a.f a.s.now a.z _ c.labels_end-start.ensures w.edges r.at w.stand)
+    ∙ sym (ap (measured a.f.width) w.onward)
 
-pub count_over-requires : goal.count_over-requires
-count_over-requires c =
-    let there = subst (CountsThere c.args.f.width c.args.s.now) c.in-Over.is c.read_edges.ensures.0 in
-    (record { wide = c.requires.2.width; inside = there }, (small c.requires.2).ports)
+pub refusal_at-requires : goal.refusal_at-requires
+refusal_at-requires c = (subst (CountsThere c.args.f.width c.args.s.now) c.in-Err.is c.read_edges.ensures.0, c.requires.2)
 
-pub returns-in-Over : goal.returns-in-Over
-returns-in-Over c =
+pub returns-in-Err : goal.returns-in-Err
+returns-in-Err c =
     let a = c.args in
-    ap (λ (p : ℕ). Refused (record { no = 4; place = p })) c.count_over.ensures
-    ∙ edge_refused (meant a.f) a.s.now a.z (omega arith) c.requires.0 c.read_edges.result (after_labels_3 c) _ (ap (settled (meant a.f) a.s.now) c.in-Over.is)
-
-pub returns-in-Refused : goal.returns-in-Refused
-returns-in-Refused c =
-    let a = c.args in
-    edge_refused (meant a.f) a.s.now a.z (omega arith) c.requires.0 c.read_edges.result (after_labels_4 c) c.in-Refused.x (ap (settled (meant a.f) a.s.now) c.in-Refused.is)
+    ap refused c.refusal_at.ensures
+    ∙ edge_refused (meant a.f) a.s.now a.z (omega arith) c.requires.0 _ (after_labels a.f a.s.now a.z _ c.labels_end-start.ensures c.read_edges.ensures.1) _ (ap (settled (meant a.f) a.s.now) c.in-Err.is)

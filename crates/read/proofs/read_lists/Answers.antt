@@ -9,17 +9,11 @@ use Rattle.edges.specs.Walk.{StandAt, bad_place}
 use Rattle.edges.proofs.Small.{small}
 use Rattle.read.proofs.Whole.{other_length, foreign_id, all_read}
 use Rattle.read.proofs.read_lists.Goals as goal
-use Rattle.read.proofs.read_lists.Goals.{After-struct_known-3-1, Then-s-at}
+use Rattle.read.proofs.read_lists.Goals.{After-struct_known-3-1}
 
 -- the lists take few bytes
 few : (c : After-struct_known-3-1) → (c.args.z.sources + (c.args.z.targets + 2 * c.args.z.pairs)) * c.args.f.width < 2 ^ 40
 few c = let z = c.args.z in
-    let l = small c.requires.2 in
-    omega (arith, mul-le-mul_left (z.sources + (z.targets + 2 * z.pairs)) l.narrow)
-
--- the lists take few bytes
-few_2 : (c : Then-s-at) → (c.args.z.sources + (c.args.z.targets + 2 * c.args.z.pairs)) * c.args.f.width < 2 ^ 40
-few_2 c = let z = c.args.z in
     let l = small c.requires.2 in
     omega (arith, mul-le-mul_left (z.sources + (z.targets + 2 * z.pairs)) l.narrow)
 
@@ -36,15 +30,18 @@ pub overflow_mul-bytes : goal.overflow_mul-bytes
 overflow_mul-bytes c = let l = few c in omega arith
 
 pub overflow_add-at : goal.overflow_add-at
-overflow_add-at c = let l = few_2 c in omega arith
+overflow_add-at c =
+    let z = c.args.z in
+    let l = small c.requires.2 in
+    omega (arith, mul-le-mul_left (z.sources + (z.targets + 2 * z.pairs)) l.narrow)
 
 pub returns-then-s-at : goal.returns-then-s-at
 returns-then-s-at c body edges e p q start at =
     let a = c.args in
-    other_length (meant a.f) a.s.now a.at a.z a.ports a.bound body edges e p q (λ h. c.if-s-at.true h) (omega arith) c.lower.result c.lower.ensures
+    other_length (meant a.f) a.s.now a.at a.z a.ports a.bound body edges e p q (λ h. c.if-s-at.true h) (omega arith) c.min.result c.min.ensures
 
-pub bad_place-requires : goal.bad_place-requires
-bad_place-requires c =
+pub bad_place-place-requires : goal.bad_place-place-requires
+bad_place-place-requires c =
     (record { wide = c.requires.2.width; inside = omega arith }, c.requires.3)
 
 pub returns-then-z-reach_of : goal.returns-then-z-reach_of
@@ -52,8 +49,8 @@ returns-then-z-reach_of c body edges e p q start at =
     let a = c.args in
     let n = a.z.sources + (a.z.targets + 2 * a.z.pairs) in
     foreign_id (meant a.f) a.s.now a.at a.z a.ports a.bound body edges e p q c.if-s-at.false c.reach_of.result c.reach_of.ensures
-    (subst (λ (k : ℕ). StandAt a.f.width a.s.now k edges a.at) start at) (omega arith) c.bad_place.result
-    (c.bad_place.ensures ∙ ap (λ (k : ℕ). bad_place a.f.width a.z.nodes a.s.now k a.z.edges n) start)
+    (subst (λ (k : ℕ). StandAt a.f.width a.s.now k edges a.at) start at) (omega arith) c.bad_place-place.result
+    (c.bad_place-place.ensures ∙ ap (λ (k : ℕ). bad_place a.f.width a.z.nodes a.s.now k a.z.edges n) start)
 
 pub returns : goal.returns
 returns c body edges e p q start at =

@@ -2,41 +2,22 @@
 -- Assumes nothing.
 use mathlib.Core.Path.{◌≡◌, ap, ◌∙◌}
 use mathlib.Core.List.{List}
-use Prim.Native.Nat.{ℕ, ◌+◌, ◌*◌, ◌≤◌}
+use Prim.Native.Nat.{ℕ, ◌+◌, ◌*◌}
 use native.Mathlib.Omega.{arith}
-use lib.ListN.{length, set}
+use lib.ListN.{set}
 use Rattle.le.specs.Le.{words}
 use Rattle.le.proofs.Places.{length_words}
-use Rattle.tables.specs.Tables.{picked_at}
 use Rattle.removal.specs.Room.{source}
+use Rattle.choice.specs.Reasons.{not_led_to, leads_to_none}
 use Rattle.reasons.specs.Told.{freed_all, waited_from}
 use Rattle.reasons.proofs.Choosing.{zero_roomy, zero_lists, walked_one, one_roomy, one_lists}
 use Rattle.reasons.proofs.choose.Goals as goal
-use Rattle.reasons.proofs.choose.Goals.{After-slice_known-9-1, After-walk-arg-2-1, After-walk-arg-4-1}
-
-long : (c : After-walk-arg-2-1) → picked_at ≤ length (words c.args.room.now)
-long c = omega (arith, length_words c.args.room.now)
+use Rattle.reasons.proofs.choose.Goals.{After-set_word-2}
 
 -- both halves are set to 0
-zero_is : (c : After-walk-arg-2-1) → let a = c.args in
+zero_is : (c : After-set_word-2) → let a = c.args in
     words c.set_word-2.new.room ≡ set (set (words a.room.now) (2 * a.best) 0) (2 * a.best + 1) 0
 zero_is c = let a = c.args in c.set_word-2.ensures ∙ ap (λ (X : List ℕ). set X (2 * a.best + 1) 0) c.set_word.ensures
-
-long_2 : (c : After-walk-arg-4-1) → picked_at ≤ length (words c.args.room.now)
-long_2 c = omega (arith, length_words c.args.room.now)
-
--- both halves are set to 0
-zero_is_2 : (c : After-walk-arg-4-1) → let a = c.args in
-    words c.set_word-2.new.room ≡ set (set (words a.room.now) (2 * a.best) 0) (2 * a.best + 1) 0
-zero_is_2 c = let a = c.args in c.set_word-2.ensures ∙ ap (λ (X : List ℕ). set X (2 * a.best + 1) 0) c.set_word.ensures
-
-long_3 : (c : After-slice_known-9-1) → picked_at ≤ length (words c.args.room.now)
-long_3 c = omega (arith, length_words c.args.room.now)
-
--- both halves are set to 0
-zero_is_3 : (c : After-slice_known-9-1) → let a = c.args in
-    words c.set_word-2.new.room ≡ set (set (words a.room.now) (2 * a.best) 0) (2 * a.best + 1) 0
-zero_is_3 c = let a = c.args in c.set_word-2.ensures ∙ ap (λ (X : List ℕ). set X (2 * a.best + 1) 0) c.set_word.ensures
 
 pub walk-mid-requires : goal.walk-mid-requires
 walk-mid-requires c =
@@ -44,10 +25,10 @@ walk-mid-requires c =
     let q = source a.s.now a.r in
     let W = words a.room.now in
     let Z = words c.set_word-2.new.room in record {
-      nodes_in_bounds = (omega (arith, c.put_chosen.auto.out), omega arith, omega arith, omega arith, omega arith, omega arith, omega (arith, c.set_word-2.auto.room, c.set_word.auto.room));
+      nodes_in_bounds = (omega (arith, c.put_chosen.auto.out), omega arith, omega arith, omega arith, omega arith, omega (arith, c.set_word-2.auto.room, c.set_word.auto.room));
       roomy = (
-        zero_roomy q W a.nodes a.n a.best a.end (omega arith) (omega arith) (omega arith) (omega arith) (long c) c.requires.roomy.0 c.requires.roomy.1 Z (zero_is c),
-        zero_lists q W a.nodes a.n a.best a.end (omega arith) (omega arith) (omega arith) (omega arith) (long c) c.requires.roomy.0 c.requires.roomy.1 Z (zero_is c),
+        zero_roomy q W a.nodes a.n a.best a.end (omega arith) (omega arith) (omega arith) (omega arith) (omega (arith, length_words a.room.now)) c.requires.roomy.0 c.requires.roomy.1 Z (zero_is (goal.at.walk-mid-requires c).After-set_word-2),
+        zero_lists q W a.nodes a.n a.best a.end (omega arith) (omega arith) (omega arith) (omega arith) (omega (arith, length_words a.room.now)) c.requires.roomy.0 c.requires.roomy.1 Z (zero_is (goal.at.walk-mid-requires c).After-set_word-2),
       );
     }
 
@@ -59,10 +40,10 @@ walk-requires c =
     let Z = words c.set_word-2.new.room in
     let t = c.walk-mid in
     let M = words t.new.room in record {
-      nodes_in_bounds = (omega (arith, c.put_chosen.auto.out, t.auto.out), omega arith, omega arith, omega arith, omega arith, t.ensures.0.went.few, omega (arith, c.set_word-2.auto.room, c.set_word.auto.room, t.auto.room));
+      nodes_in_bounds = (omega (arith, c.put_chosen.auto.out, t.auto.out), omega arith, omega arith, omega arith, t.ensures.0.went.few, omega (arith, c.set_word-2.auto.room, c.set_word.auto.room, t.auto.room));
       roomy = (
-        one_roomy q W a.nodes a.n a.best a.end (omega arith) (omega arith) (omega arith) (omega arith) (long_2 c) c.requires.roomy.0 c.requires.roomy.1 Z (zero_is_2 c) M t.result t.ensures.0,
-        one_lists q W a.nodes a.n a.best a.end (omega arith) (omega arith) (omega arith) (omega arith) (long_2 c) c.requires.roomy.0 c.requires.roomy.1 Z (zero_is_2 c) M t.result t.ensures.0,
+        one_roomy q W a.nodes a.n a.best a.end (omega arith) (omega arith) (omega arith) (omega arith) (omega (arith, length_words a.room.now)) c.requires.roomy.0 c.requires.roomy.1 Z (zero_is (goal.at.walk-requires c).After-set_word-2) M t.result t.ensures.0,
+        one_lists q W a.nodes a.n a.best a.end (omega arith) (omega arith) (omega arith) (omega arith) (omega (arith, length_words a.room.now)) c.requires.roomy.0 c.requires.roomy.1 Z (zero_is (goal.at.walk-requires c).After-set_word-2) M t.result t.ensures.0,
       );
     }
 
@@ -79,9 +60,9 @@ returns c =
     record {
       middle = M;
       mid = t.result;
-      one = walked_one q W a.nodes a.n a.best a.end (omega arith) (omega arith) (omega arith) (omega arith) (long_3 c) c.requires.roomy.0 c.requires.roomy.1 Z (zero_is_3 c) M t.result t.ensures.0;
+      one = walked_one q W a.nodes a.n a.best a.end (omega arith) (omega arith) (omega arith) (omega arith) (omega (arith, length_words a.room.now)) c.requires.roomy.0 c.requires.roomy.1 Z (zero_is (goal.at.returns c).After-set_word-2) M t.result t.ensures.0;
       two = u.ensures.0;
       is = u.ensures.1
-          ∙ ap (freed_all a.nodes 2 (a.stage + 1) (waited_from X a.n t.result u.result))
-          (t.ensures.1 ∙ ap (freed_all a.nodes 1 (a.stage + 1) (waited_from M a.n a.end t.result)) c.put_chosen.ensures);
+          ∙ ap (freed_all a.nodes (leads_to_none (a.stage + 1)) (waited_from X a.n t.result u.result))
+          (t.ensures.1 ∙ ap (freed_all a.nodes (not_led_to (a.stage + 1)) (waited_from M a.n a.end t.result)) c.put_chosen.ensures);
     }

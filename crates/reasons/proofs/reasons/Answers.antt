@@ -1,109 +1,67 @@
 -- `reasons::reasons` meets its contract.
 -- Assumes nothing.
-use mathlib.Core.Path.{◌≡◌, sym, subst}
+use mathlib.Core.Path.{sym, subst}
 use Prim.Native.Nat.{ℕ}
 use native.Mathlib.Omega.{arith}
 use lib.ListN.{length}
 use Rattle.choice.specs.Calls.{room_reasons, reasoned, reasons_call}
 use Rattle.form.specs.Form.{Gives}
-use Rattle.form.specs.Stored.{graph_of, Stored}
-use Rattle.form.specs.declared.Outcome.TheVariants as call
+use Rattle.form.specs.declared.Refusal.TheVariants as why
 use Rattle.graph.specs.Answer.{Answer, Result}
 use Rattle.graph.specs.Graph.{Graph}
 use Rattle.graph.specs.Versions as versions
-use Rattle.form.proofs.Answers.{room_enough, gives_refused}
+use Rattle.form.proofs.Answers.{room_enough, gives_passed}
 use Rattle.form.proofs.Pairless.{room_short, graph_unread, graph_paired, graph_pairless}
 use Rattle.form.proofs.Stored.{stored_bytes}
 use Rattle.cycle.proofs.Begin.{drawn}
+use Rattle.std.specs.Prelude.{Ok, Err}
+use Rattle.form.proofs.Drawn.{stored_in, at_source}
 use Rattle.reasons.proofs.Ending.{answer_of, answer_10, answer_0}
+use Rattle.form.specs.Drawn.{graph_in}
 use Rattle.reasons.proofs.reasons.Goals as goal
-use Rattle.reasons.proofs.reasons.Goals.{After-put_reasons-arg-2-1, After-refusal-in_default-pairs, After-slice_known-4-1, After-struct_known-1, Then-out-z}
 
 -- what follows 8
 abbrev next : ℕ → versions.StoredGraph → Graph → Answer Result
 next room s g = answer_of g room
 
--- the form that was read
-form : (c : After-refusal-in_default-pairs) → Stored c.args.src.now c.in-Sized.z
-form c = stored_bytes c.read-graph.ensures c.type_inv.src c.in-Sized.is
-
--- the form that was read
-form_2 : (c : After-struct_known-1) → Stored c.args.src.now c.in-Sized.z
-form_2 c = stored_bytes c.read-graph.ensures c.type_inv.src c.in-Sized.is
-
--- the form that was read
-form_3 : (c : Then-out-z) → Stored c.args.src.now c.in-Sized.z
-form_3 c = stored_bytes c.read-graph.ensures c.type_inv.src c.in-Sized.is
-
--- no refusal was met up to 8
-whole : (c : Then-out-z) → let a = c.args in
-    reasons_call a.src.now (length a.out.now) (length a.room.now) ≡ answer_of (graph_of a.src.now) (length a.out.now)
+pub returns-in_err-work_room : goal.returns-in_err-work_room
 unfolding reasoned
-whole c = let a = c.args in
-    let w = c.work_room-lent in
-    let p = c.unpaired-pairs in
-    graph_pairless a.src.now room_reasons _ (next (length a.out.now)) w.result w.ensures _ c.in-Number.is (form_3 c) p.result p.ensures _ c.in-Number-pairs.is
-
--- the form that was read
-form_4 : (c : After-put_reasons-arg-2-1) → Stored c.args.src.now c.in-Sized.z
-form_4 c = stored_bytes c.read-graph.ensures c.type_inv.src c.in-Sized.is
-
--- the form that was read
-form_5 : (c : After-slice_known-4-1) → Stored c.args.src.now c.in-Sized.z
-form_5 c = stored_bytes c.read-graph.ensures c.type_inv.src c.in-Sized.is
-
--- no refusal was met up to 8
-whole_2 : (c : After-slice_known-4-1) → let a = c.args in
-    reasons_call a.src.now (length a.out.now) (length a.room.now) ≡ answer_of (graph_of a.src.now) (length a.out.now)
-unfolding reasoned
-whole_2 c = let a = c.args in
-    let w = c.work_room-lent in
-    let p = c.unpaired-pairs in
-    graph_pairless a.src.now room_reasons _ (next (length a.out.now)) w.result w.ensures _ c.in-Number.is (form_5 c) p.result p.ensures _ c.in-Number-pairs.is
-
-pub returns-in_default : goal.returns-in_default
-unfolding reasoned
-returns-in_default c =
+returns-in_err-work_room c =
     let a = c.args in
-    let w = c.work_room-lent in
-    gives_refused c.refusal.result a.out.now (room_short a.src.now room_reasons _ (next (length a.out.now)) w.result w.ensures _ c.in_default.is _ c.refusal.ensures)
+    gives_passed _ _ c.from_residual.ensures.1 (room_short a.src.now room_reasons _ (next (length a.out.now)) _ c.in_err-work_room.ensures)
 
-pub returns-in_default-graph : goal.returns-in_default-graph
+pub returns-in_err-drawing : goal.returns-in_err-drawing
 unfolding reasoned
-returns-in_default-graph c =
+returns-in_err-drawing c =
     let a = c.args in
-    let w = c.work_room-lent in
-    let g = c.read-graph in
-    gives_refused c.refusal-in_default-graph.result a.out.now
-    (graph_unread a.src.now room_reasons _ (next (length a.out.now)) w.result w.ensures _ c.in-Number.is g.result g.ensures _ c.in_default-graph.is _ c.refusal-in_default-graph.ensures)
+    gives_passed _ _ c.from_residual-in_err-drawing.ensures.1 (graph_unread a.src.now room_reasons _ (next (length a.out.now)) c.in_ok-work_room.ensures _ c.in_err-drawing.ensures.sizes)
 
-pub returns-in_default-pairs : goal.returns-in_default-pairs
+pub returns-in_err-unpaired : goal.returns-in_err-unpaired
 unfolding reasoned
-returns-in_default-pairs c =
+returns-in_err-unpaired c =
     let a = c.args in
-    let w = c.work_room-lent in
-    let p = c.unpaired-pairs in
-    gives_refused c.refusal-in_default-pairs.result a.out.now
-    (graph_paired a.src.now room_reasons _ (next (length a.out.now)) w.result w.ensures _ c.in-Number.is (form c) p.result p.ensures _ c.in_default-pairs.is _ c.refusal-in_default-pairs.ensures)
-
-pub overflow_mul-z : goal.overflow_mul-z
-overflow_mul-z c = omega (arith, (drawn (form_2 c)).few_nodes)
+    let s = stored_bytes c.in_ok-drawing.ensures.sizes c.type_inv.src in
+    gives_passed _ _ c.from_residual-in_err-unpaired.ensures.1
+    (graph_paired a.src.now room_reasons _ (next (length a.out.now)) c.in_ok-work_room.ensures s _ c.in_err-unpaired.ensures)
 
 pub returns-then-out-z : goal.returns-then-out-z
+unfolding reasoned
 returns-then-out-z c =
     let a = c.args in
-    let d = drawn (form_3 c) in
-    subst (λ (x : Answer Result). Gives x (call.Refused (record { no = 10; place = 0 })) a.out.now a.out.now) (sym (whole c)) (answer_10 (graph_of a.src.now) _ d.nodes_is a.out.now (omega arith))
+    let d = c.in_ok-drawing.drawing in
+    let is = graph_pairless d.src.now room_reasons _ (next (length a.out.now)) c.in_ok-work_room.ensures (stored_in d) c.in_ok-unpaired.ensures in
+    at_source (λ b. Gives (reasons_call b (length a.out.now) (length a.room.now)) (Err why.NoRoom) a.out.now a.out.now) c.in_ok-drawing.ensures.source
+    (subst (λ (x : Answer Result). Gives x (Err why.NoRoom) a.out.now a.out.now) (sym is) (answer_10 (graph_in d) _ (drawn d).nodes_is a.out.now (omega arith)))
 
 pub put_reasons-ids-requires : goal.put_reasons-ids-requires
-put_reasons-ids-requires c =
-    let s = form_4 c in
-    let w = c.work_room-lent in
-    (omega arith, room_enough room_reasons _ w.result w.ensures _ c.in-Number.is, s)
+put_reasons-ids-requires c = (omega arith, room_enough room_reasons _ c.in_ok-work_room.ensures)
 
 pub returns : goal.returns
+unfolding reasoned
 returns c =
     let a = c.args in
-    let d = drawn (form_5 c) in
+    let d = c.in_ok-drawing.drawing in
     let p = c.put_reasons-ids in
-    subst (λ (x : Answer Result). Gives x (call.Done c.in-Sized.z.nodes p.result) a.out.now p.new.out) (sym (whole_2 c)) (answer_0 (graph_of a.src.now) _ d.nodes_is a.out.now p.new.out p.result (omega arith) p.ensures)
+    let is = graph_pairless d.src.now room_reasons _ (next (length a.out.now)) c.in_ok-work_room.ensures (stored_in d) c.in_ok-unpaired.ensures in
+    at_source (λ b. Gives (reasons_call b (length a.out.now) (length a.room.now)) (Ok (record { a = d.sizes.nodes; b = p.result })) a.out.now p.new.out) c.in_ok-drawing.ensures.source
+    (subst (λ (x : Answer Result). Gives x (Ok (record { a = d.sizes.nodes; b = p.result })) a.out.now p.new.out) (sym is) (answer_0 (graph_in d) _ (drawn d).nodes_is a.out.now p.new.out p.result (omega arith) p.ensures))

@@ -1,23 +1,13 @@
 -- `reasons::walk` meets its contract.
 -- Assumes nothing.
-use Prim.Native.Nat.{◌≤◌}
 use native.Mathlib.Omega.{arith}
-use lib.ListN.{length}
 use Rattle.le.specs.Le.{words}
 use Rattle.le.proofs.Places.{length_words}
-use Rattle.tables.specs.Tables.{picked_at}
 use Rattle.halves.specs.Halves.{lower_all}
 use Rattle.removal.specs.Room.{source, halves_in, list_in}
 use Rattle.removal.proofs.Rooms.{roomy_all}
 use Rattle.reasons.proofs.Rooms.{walked_later, after_roomy, after_lists, after_settled}
 use Rattle.reasons.proofs.walk.Goals as goal
-use Rattle.reasons.proofs.walk.Goals.{After-settle-arg-2-1, After-slice_known-5-1}
-
-long : (c : After-settle-arg-2-1) → picked_at ≤ length (words c.args.room.now)
-long c = omega (arith, length_words c.args.room.now)
-
-long_2 : (c : After-slice_known-5-1) → picked_at ≤ length (words c.args.room.now)
-long_2 c = omega (arith, length_words c.args.room.now)
 
 pub settle-requires : goal.settle-requires
 settle-requires c =
@@ -27,12 +17,12 @@ settle-requires c =
     let o = c.lower_all-gone in
     let M = words o.new.room in
     let h = lower_all (list_in q W a.nodes a.y) (halves_in W a.n a.end) in
-    let y = c.requires.nodes_in_bounds.2 in
+    let y = c.requires.nodes_in_bounds.1 in
     let roomy = roomy_all a.n (list_in q W a.nodes a.y) (halves_in W a.n a.end) (c.requires.roomy.1.low a.y y) c.requires.roomy.0 in record {
-      nodes_in_bounds = (omega arith, omega arith, walked_later q W M a.nodes a.n (omega arith) (long c) a.y a.end o.result (omega arith) o.ensures, omega arith, omega arith, o.ensures.few, omega (arith, o.auto.room));
+      nodes_in_bounds = (omega arith, walked_later q W M a.nodes a.n (omega arith) (omega (arith, length_words a.room.now)) a.y a.end o.result (omega arith) o.ensures, omega arith, omega arith, o.ensures.few, omega (arith, o.auto.room));
       roomy = (
-        after_roomy q W M M a.nodes a.n (omega arith) (omega arith) (long c) c.requires.roomy.1 h roomy o.result o.ensures,
-        after_lists q W M M a.nodes a.n (omega arith) (omega arith) (long c) c.requires.roomy.1 h roomy o.result o.ensures,
+        after_roomy q W M M a.nodes a.n (omega arith) (omega arith) (omega (arith, length_words a.room.now)) c.requires.roomy.1 h roomy o.result o.ensures,
+        after_lists q W M M a.nodes a.n (omega arith) (omega arith) (omega (arith, length_words a.room.now)) c.requires.roomy.1 h roomy o.result o.ensures,
       );
     }
 
@@ -45,8 +35,8 @@ returns c =
     let t = c.settle in
     let M = words o.new.room in
     let h = lower_all (list_in q W a.nodes a.y) (halves_in W a.n a.end) in
-    let y = c.requires.nodes_in_bounds.2 in
+    let y = c.requires.nodes_in_bounds.1 in
     let roomy = roomy_all a.n (list_in q W a.nodes a.y) (halves_in W a.n a.end) (c.requires.roomy.1.low a.y y) c.requires.roomy.0 in (
-      after_settled q W M (words t.new.room) a.nodes a.n (omega arith) (omega arith) (long_2 c) c.requires.roomy.1 h roomy o.result o.ensures a.end t.result t.ensures.0,
+      after_settled q W M (words t.new.room) a.nodes a.n (omega arith) (omega arith) (omega (arith, length_words a.room.now)) c.requires.roomy.1 h roomy o.result o.ensures a.end t.result t.ensures.0,
       t.ensures.1,
     )

@@ -5,23 +5,15 @@ use Prim.Native.Nat.{ℕ, ◌+◌, ◌*◌, ◌<◌}
 use native.Mathlib.Omega.{arith}
 use lib.ListN.{length, get_or}
 use Rattle.le.specs.Le.{words}
-use Rattle.le.proofs.Rows.{holds_index, holds_less}
 use Rattle.removal.specs.Room.{source, form_list}
 use Rattle.removal.proofs.Walks.{in_get_d, walk_start, walk_roomy, walk_turn, walk_done, formed_length, formed_at}
 use Rattle.removal.proofs.lower_formed.Goals as goal
-use Rattle.removal.proofs.lower_formed.Goals.{After-lower-arg-1, After-slice_known-in-loop-j-1}
+use Rattle.removal.proofs.lower_formed.Goals.{After-number-id}
 
 -- what was read is the list's entry
-next : (c : After-lower-arg-1) → let a = c.args in
+next : (c : After-number-id) → let a = c.args in
     2 * c.number-id.result + a.side ≡ get_or (form_list (source a.s.now a.r) a.start a.count a.side) c.loop-j.j 0
 next c = let a = c.args in
-    let l = c.loop-j in
-    ap (λ (k : ℕ). 2 * k + a.side) c.number-id.ensures.0 ∙ formed_at (source a.s.now a.r) a.start a.count a.side l.j (omega arith)
-
--- what was read is the list's entry
-next_2 : (c : After-slice_known-in-loop-j-1) → let a = c.args in
-    2 * c.number-id.result + a.side ≡ get_or (form_list (source a.s.now a.r) a.start a.count a.side) c.loop-j.j 0
-next_2 c = let a = c.args in
     let l = c.loop-j in
     ap (λ (k : ℕ). 2 * k + a.side) c.number-id.ensures.0 ∙ formed_at (source a.s.now a.r) a.start a.count a.side l.j (omega arith)
 
@@ -29,12 +21,6 @@ pub loop-j-init : goal.loop-j-init
 loop-j-init c =
     let a = c.args in
     (omega arith, walk_start (words a.room.now) a.n a.end (form_list (source a.s.now a.r) a.start a.count a.side) (omega arith), refl)
-
-pub overflow_add-start : goal.overflow_add-start
-overflow_add-start c = omega (arith, holds_index c.requires.holds.0)
-
-pub number-id-requires : goal.number-id-requires
-number-id-requires c = holds_less c.requires.holds.0 _ (omega arith)
 
 pub lower-last-requires : goal.lower-last-requires
 lower-last-requires c =
@@ -44,7 +30,7 @@ lower-last-requires c =
     let ts = form_list (source a.s.now a.r) a.start a.count a.side in
     let j : l.j < length ts = omega (arith, formed_length (source a.s.now a.r) a.start a.count a.side) in
     let w = l.invariant.1 in
-    let low = c.requires.roomy.1 in record { y_bound = (omega (arith, next c, low (get_or ts l.j 0) (in_get_d ts l.j j)), omega arith, w.few, omega arith); roomy = walk_roomy W a.n a.end ts (words l.room) l.j l.last w low c.requires.roomy.0 }
+    let low = c.requires.roomy.1 in record { y_bound = (omega (arith, next (goal.at.lower-last-requires c).After-number-id, low (get_or ts l.j 0) (in_get_d ts l.j j)), omega arith, w.few, omega arith); roomy = walk_roomy W a.n a.end ts (words l.room) l.j l.last w low c.requires.roomy.0 }
 
 pub loop-j-preserved : goal.loop-j-preserved
 loop-j-preserved c =
@@ -55,7 +41,7 @@ loop-j-preserved c =
     let o = c.lower-last in
     let j : l.j < length ts = omega (arith, formed_length (source a.s.now a.r) a.start a.count a.side) in (
       omega arith,
-      walk_turn W a.n a.end ts (words l.room) l.j l.last l.invariant.1 (2 * c.number-id.result + a.side) j (next_2 c) (words o.new.room) o.result o.ensures,
+      walk_turn W a.n a.end ts (words l.room) l.j l.last l.invariant.1 (2 * c.number-id.result + a.side) j (next (goal.at.loop-j-preserved c).After-number-id) (words o.new.room) o.result o.ensures,
       o.auto.room ∙ l.invariant.2,
     )
 

@@ -1,37 +1,22 @@
 -- `removal::lower_listed` meets its contract.
 -- Assumes nothing.
 use mathlib.Core.Path.{◌≡◌, refl, ◌∙◌}
-use Prim.Native.Nat.{◌≤◌, ◌<◌}
+use Prim.Native.Nat.{◌<◌}
 use native.Mathlib.Omega.{arith}
 use lib.ListN.{length, get_or}
 use Rattle.le.specs.Le.{words}
-use Rattle.le.proofs.Places.{length_words}
+use Rattle.le.proofs.Places.{in_words}
 use Rattle.tables.specs.Tables.{picked_at}
 use Rattle.removal.specs.Room.{room_list}
 use Rattle.removal.proofs.Walks.{in_get_d, walk_start, walk_roomy, walk_turn, walk_done, listed_length, listed_at}
 use Rattle.removal.proofs.lower_listed.Goals as goal
-use Rattle.removal.proofs.lower_listed.Goals.{After-loop-j, After-lower-arg-1, After-slice_known-in-loop-j-1}
-
-long : (c : After-lower-arg-1) → picked_at ≤ length (words c.args.room.now)
-long c = omega (arith, length_words c.args.room.now)
+use Rattle.removal.proofs.lower_listed.Goals.{After-word-y}
 
 -- what was read is the list's entry
-next : (c : After-lower-arg-1) → let a = c.args in c.word-y.result ≡ get_or (room_list (words a.room.now) a.start a.count) c.loop-j.j 0
+next : (c : After-word-y) → let a = c.args in c.word-y.result ≡ get_or (room_list (words a.room.now) a.start a.count) c.loop-j.j 0
 next c = let a = c.args in
     let l = c.loop-j in
-    c.word-y.ensures ∙ listed_at (words a.room.now) a.start a.count (omega arith) (long c) (words l.room) l.invariant.1.frame l.j (omega arith)
-
-long_2 : (c : After-slice_known-in-loop-j-1) → picked_at ≤ length (words c.args.room.now)
-long_2 c = omega (arith, length_words c.args.room.now)
-
--- what was read is the list's entry
-next_2 : (c : After-slice_known-in-loop-j-1) → let a = c.args in c.word-y.result ≡ get_or (room_list (words a.room.now) a.start a.count) c.loop-j.j 0
-next_2 c = let a = c.args in
-    let l = c.loop-j in
-    c.word-y.ensures ∙ listed_at (words a.room.now) a.start a.count (omega arith) (long_2 c) (words l.room) l.invariant.1.frame l.j (omega arith)
-
-long_3 : (c : After-loop-j) → picked_at ≤ length (words c.args.room.now)
-long_3 c = omega (arith, length_words c.args.room.now)
+    c.word-y.ensures ∙ listed_at (words a.room.now) a.start a.count (omega arith) (in_words a.room.now picked_at (omega arith)) (words l.room) l.invariant.1.frame l.j (omega arith)
 
 pub loop-j-init : goal.loop-j-init
 loop-j-init c =
@@ -44,9 +29,9 @@ lower-last-requires c =
     let l = c.loop-j in
     let W = words a.room.now in
     let ts = room_list W a.start a.count in
-    let j : l.j < length ts = omega (arith, listed_length W a.start a.count (omega arith) (long c)) in
+    let j : l.j < length ts = omega (arith, listed_length W a.start a.count (omega arith) (in_words a.room.now picked_at (omega arith))) in
     let w = l.invariant.1 in
-    let low = c.requires.roomy.1 in record { y_bound = (omega (arith, next c, low (get_or ts l.j 0) (in_get_d ts l.j j)), omega arith, w.few, omega arith); roomy = walk_roomy W a.n a.end ts (words l.room) l.j l.last w low c.requires.roomy.0 }
+    let low = c.requires.roomy.1 in record { y_bound = (omega (arith, next (goal.at.lower-last-requires c).After-word-y, low (get_or ts l.j 0) (in_get_d ts l.j j)), omega arith, w.few, omega arith); roomy = walk_roomy W a.n a.end ts (words l.room) l.j l.last w low c.requires.roomy.0 }
 
 pub loop-j-preserved : goal.loop-j-preserved
 loop-j-preserved c =
@@ -55,9 +40,9 @@ loop-j-preserved c =
     let W = words a.room.now in
     let ts = room_list W a.start a.count in
     let o = c.lower-last in
-    let j : l.j < length ts = omega (arith, listed_length W a.start a.count (omega arith) (long_2 c)) in (
+    let j : l.j < length ts = omega (arith, listed_length W a.start a.count (omega arith) (in_words a.room.now picked_at (omega arith))) in (
       omega arith,
-      walk_turn W a.n a.end ts (words l.room) l.j l.last l.invariant.1 c.word-y.result j (next_2 c) (words o.new.room) o.result o.ensures,
+      walk_turn W a.n a.end ts (words l.room) l.j l.last l.invariant.1 c.word-y.result j (next (goal.at.loop-j-preserved c).After-word-y) (words o.new.room) o.result o.ensures,
       o.auto.room ∙ l.invariant.2,
     )
 
@@ -67,4 +52,4 @@ returns c =
     let l = c.loop-j in
     let W = words a.room.now in
     walk_done W a.n a.end (room_list W a.start a.count) (words l.room) l.j l.last l.invariant.1
-    (omega (arith, listed_length W a.start a.count (omega arith) (long_3 c)))
+    (omega (arith, listed_length W a.start a.count (omega arith) (in_words a.room.now picked_at (omega arith))))

@@ -12,6 +12,7 @@ use Rattle.le.proofs.Rows.{holds_less, holds_same, length_puts}
 use Rattle.form.specs.Form.{sized, labels_of, body_of, body_size}
 use Rattle.form.specs.declared.Sizes.{Sizes}
 use Rattle.form.proofs.Stored.{stored_rows}
+use Rattle.form.proofs.Drawn.{stored_in}
 use Rattle.write.specs.Write.{headed, drawn}
 use Rattle.write.proofs.Results.{length_headed}
 use Rattle.rewrite.proofs.put_graph.Goals as goal
@@ -26,25 +27,13 @@ drew : (old : List ℕ) (y : Sizes) {L B : Row} {ls ms ns qs d e f : List ℕ} �
 unfolding drawn
 drew old y p q r s h k l = l ∙ (λ i. puts ((k ∙ (λ j. puts (h j) (p j) 0 (r j))) i) (q i) 0 (s i))
 
-pub overflow_add-labels : goal.overflow_add-labels
-overflow_add-labels c = let h = (stored_rows c.requires.0).low in omega arith
-
-pub body_size-numbers-requires : goal.body_size-numbers-requires
-body_size-numbers-requires c = (stored_rows c.requires.0).low
-
-pub label_row-from_labels-requires : goal.label_row-from_labels-requires
-label_row-from_labels-requires c = (stored_rows c.requires.0).low
-
-pub body_row-from_body-requires : goal.body_row-from_body-requires
-body_row-from_body-requires c = (stored_rows c.requires.0).low
-
 pub copy_numbers-requires : goal.copy_numbers-requires
 copy_numbers-requires c =
     let p = c.requires in
     let d = c.put_header in (
-      held p.1.labels c.label_row-to_labels.ensures d.new.out
-          (ap length d.ensures ∙ length_headed _ _) (sym (ap (λ (n : Counts). n.nodes + n.edges) p.2)),
-      held (stored_rows p.0).labels_held c.label_row-from_labels.ensures _ refl refl,
+      held p.0.labels c.label_row-to_labels.ensures d.new.out
+          (ap length d.ensures ∙ length_headed _ _) (sym (ap (λ (n : Counts). n.nodes + n.edges) p.1)),
+      held (stored_rows (stored_in c.args.drawing)).labels_held c.labels.ensures _ refl refl,
     )
 
 pub copy_numbers-requires-2 : goal.copy_numbers-requires-2
@@ -53,17 +42,17 @@ copy_numbers-requires-2 c =
     let n = c.body_size-numbers.ensures in
     let d = c.copy_numbers in
     let e = c.put_header in (
-      held p.1.body c.body_row-to_body.ensures d.new.d
-          (ap length d.ensures ∙ length_puts _ _ _ _ ∙ ap length e.ensures ∙ length_headed _ _) (n ∙ sym (λ i. body_size (sized 0 (p.2 i) (p.3 i)))),
-      held (stored_rows p.0).body_held c.body_row-from_body.ensures _ refl n,
+      held p.0.body c.body_row-to_body.ensures d.new.d
+          (ap length d.ensures ∙ length_puts _ _ _ _ ∙ ap length e.ensures ∙ length_headed _ _) (n ∙ sym (λ i. body_size (sized 0 (p.1 i) (p.2 i)))),
+      held (stored_rows (stored_in c.args.drawing)).body_held c.body.ensures _ refl n,
     )
 
 pub returns : goal.returns
 returns c =
     let a = c.args in
-    let rows = stored_rows c.requires.0 in
-    let src = a.src.now in
+    let rows = stored_rows (stored_in a.drawing) in
+    let src = a.drawing.src.now in
     drew a.out.now a.y c.label_row-to_labels.ensures c.body_row-to_body.ensures
-    (ap (λ (r : Row). span src r 0 (a.z.nodes + a.z.edges)) c.label_row-from_labels.ensures ∙ rows.all_labels)
-    ((λ i. span src (c.body_row-from_body.ensures i) 0 (c.body_size-numbers.ensures i)) ∙ rows.body)
+    (ap (λ (r : Row). span src r 0 (a.drawing.sizes.nodes + a.drawing.sizes.edges)) c.labels.ensures ∙ rows.all_labels)
+    ((λ i. span src (c.body.ensures i) 0 (c.body_size-numbers.ensures i)) ∙ rows.body)
     c.put_header.ensures c.copy_numbers.ensures c.copy_numbers-2.ensures

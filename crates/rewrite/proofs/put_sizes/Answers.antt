@@ -1,22 +1,11 @@
 -- `rewrite::put_sizes` meets its contract.
 -- Assumes nothing.
 use mathlib.Core.List.{List, [], ◌∷◌}
-use mathlib.Core.Logic.{inr}
-use mathlib.Core.Path.{refl, ap, ◌∙◌}
+use mathlib.Core.Path.{ap, ◌∙◌}
 use Prim.Native.Nat.{ℕ}
-use native.Mathlib.Omega.{arith}
 use Rattle.le.specs.Rows.{row_at, puts}
 use Rattle.le.proofs.Rows.{puts_append}
 use Rattle.rewrite.proofs.put_sizes.Goals as goal
-
-pub put_two-requires : goal.put_two-requires
-put_two-requires c = (record { wide = inr refl; inside = omega arith }, omega arith, omega arith)
-
-pub put_two-requires-2 : goal.put_two-requires-2
-put_two-requires-2 c = (record { wide = inr refl; inside = omega arith }, omega arith, omega arith)
-
-pub put_two-requires-3 : goal.put_two-requires-3
-put_two-requires-3 c = (record { wide = inr refl; inside = omega arith }, omega arith, omega arith)
 
 pub returns : goal.returns
 returns c =

@@ -1,62 +1,41 @@
 -- `rewrite::rewrite` meets its contract.
 -- Assumes nothing.
+use mathlib.Core.List.{List}
 use mathlib.Core.Path.{ap}
+use Prim.Native.Nat.{ℕ}
 use lib.ListN.{length}
-use Rattle.graph.specs.Calls.{on_graph, rewrite_step}
+use Rattle.graph.specs.Calls.{rewrite_call, rewrite_step}
 use Rattle.graph.specs.Graph.{Format}
+use Rattle.form.specs.Drawn.{graph_in}
 use Rattle.form.specs.Form.{counts_of}
-use Rattle.form.specs.Stored.{graph_of, Stored}
 use Rattle.form.specs.declared.Sizes.{Sizes}
-use Rattle.form.proofs.Answers.{passed_read}
-use Rattle.form.proofs.Stored.{unread, stored_bytes}
+use Rattle.form.proofs.Answers.{gives_passed}
+use Rattle.form.proofs.Drawn.{stored_in, at_source}
+use Rattle.form.proofs.Stored.{unread}
 use Rattle.write.proofs.Calls.{graph_unread, Ends, graph_ends}
 use Rattle.rewrite.proofs.Ways.{read_again}
 use Rattle.rewrite.proofs.rewrite.Goals as goal
-use Rattle.rewrite.proofs.rewrite.Goals.{After-put_graph-arg-1, After-refusal-in_default-fit, After-slice_known-2-1}
+use Rattle.rewrite.proofs.rewrite.Goals.{After-result_size}
 
--- the form that was read, and the sizes in which it is written
-form : (c : After-put_graph-arg-1) → Stored c.args.src.now c.in-Sized.z
-form c = stored_bytes c.read-graph.ensures c.type_inv.src c.in-Sized.is
+-- the ways on once the graph is read
+ends : (c : After-result_size) → Ends (rewrite_call c.args.src.now (length c.args.out.now)) c.args.out.now c.sized-y.result (graph_in c.in_ok-drawing.drawing) 0
+ends c =
+    let old = c.args.out.now in
+    let d = c.in_ok-drawing.drawing in
+    let w = read_again (stored_in d) c.sized-y.ensures in
+    at_source (λ (b : List ℕ). Ends (rewrite_call b (length old)) old c.sized-y.result (graph_in d) 0) c.in_ok-drawing.ensures.source
+    (graph_ends old _ 0 w.1 _ (λ (f : Format). rewrite_step) (stored_in d) w.0)
 
-ends : (c : After-put_graph-arg-1) → Ends (on_graph c.args.src.now (length c.args.out.now) (λ (f : Format). rewrite_step)) c.args.out.now c.sized-y.result c.result_size-fit.result (graph_of c.args.src.now) 0
-ends c = let a = c.args in
-    let w = read_again (form c) c.sized-y.ensures in
-    graph_ends a.out.now _ 0 w.1 c.result_size-fit.ensures a.src.now (λ (f : Format). rewrite_step) (form c) w.0
-
--- the form that was read, and the sizes in which it is written
-form_2 : (c : After-refusal-in_default-fit) → Stored c.args.src.now c.in-Sized.z
-form_2 c = stored_bytes c.read-graph.ensures c.type_inv.src c.in-Sized.is
-
-ends_2 : (c : After-refusal-in_default-fit) → Ends (on_graph c.args.src.now (length c.args.out.now) (λ (f : Format). rewrite_step)) c.args.out.now c.sized-y.result c.result_size-fit.result (graph_of c.args.src.now) 0
-ends_2 c = let a = c.args in
-    let w = read_again (form_2 c) c.sized-y.ensures in
-    graph_ends a.out.now _ 0 w.1 c.result_size-fit.ensures a.src.now (λ (f : Format). rewrite_step) (form_2 c) w.0
-
--- the form that was read, and the sizes in which it is written
-form_3 : (c : After-slice_known-2-1) → Stored c.args.src.now c.in-Sized.z
-form_3 c = stored_bytes c.read-graph.ensures c.type_inv.src c.in-Sized.is
-
-ends_3 : (c : After-slice_known-2-1) → Ends (on_graph c.args.src.now (length c.args.out.now) (λ (f : Format). rewrite_step)) c.args.out.now c.sized-y.result c.result_size-fit.result (graph_of c.args.src.now) 0
-ends_3 c = let a = c.args in
-    let w = read_again (form_3 c) c.sized-y.ensures in
-    graph_ends a.out.now _ 0 w.1 c.result_size-fit.ensures a.src.now (λ (f : Format). rewrite_step) (form_3 c) w.0
-
-pub returns-in_default : goal.returns-in_default
-returns-in_default c =
-    let a = c.args in
-    let r = c.read-graph in
-    graph_unread a.src.now (λ (f : Format). rewrite_step) a.out.now _ (unread a.src.now r.result r.ensures _ (passed_read c.in_default.is c.refusal.ensures))
-
-pub result_size-fit-requires : goal.result_size-fit-requires
-result_size-fit-requires c = rw c.sized-y.ensures
+pub returns-in_err-drawing : goal.returns-in_err-drawing
+returns-in_err-drawing c = gives_passed _ _ c.from_residual.ensures.1 (graph_unread _ _ _ (unread _ _ c.in_err-drawing.ensures.sizes))
 
 pub put_graph-requires : goal.put_graph-requires
 put_graph-requires c =
     let y = c.sized-y.ensures in
-    (form c, (ends c).room c.in-Number.is, ap counts_of y, ap (λ (z : Sizes). z.ports) y)
+    ((ends (goal.at.put_graph-requires c).After-result_size).room c.in_ok-bytes.ensures, ap counts_of y, ap (λ (z : Sizes). z.ports) y)
 
-pub returns-in_default-fit : goal.returns-in_default-fit
-returns-in_default-fit c = (ends_2 c).refuses c.in_default-fit.is c.refusal-in_default-fit.ensures
+pub returns-in_err-bytes : goal.returns-in_err-bytes
+returns-in_err-bytes c = (ends (goal.at.returns-in_err-bytes c).After-result_size).refuses _ c.in_err-bytes.ensures c.from_residual-in_err-bytes.ensures.1
 
 pub returns : goal.returns
-returns c = (ends_3 c).done c.in-Number.is c.put_graph.ensures
+returns c = (ends (goal.at.returns c).After-result_size).done c.in_ok-bytes.ensures c.put_graph.ensures

@@ -8,7 +8,7 @@ use Rattle.scan.specs.Stages.{Counted}
 use Rattle.scan.proofs.count_edges.Given as goal
 
 abbrev pub invariant-loop-i : goal.invariant-loop-i
-invariant-loop-i l = (l.i ≤ l.i-end) × (l.k ≡ edge_start (graph_of l.src).edges l.i) × Counted (graph_of l.src) l.initial.room l.room l.i
+invariant-loop-i l = (l.i ≤ l.i-end) × (l.k ≡ edge_start (graph_of l.drawing.src.now).edges l.i) × Counted (graph_of l.drawing.src.now) l.initial.room l.room l.i
 
 abbrev pub decreases-loop-i : goal.decreases-loop-i
 decreases-loop-i l = l.i-end - l.i

@@ -1,168 +1,105 @@
 -- `scan::cycle_breaking_nodes_scanning` meets its contract.
 -- Assumes nothing.
 use mathlib.Core.List.{List}
-use mathlib.Core.Path.{◌≡◌, sym, ap, ◌∙◌, subst}
-use Prim.Native.Nat.{ℕ, ◌≤◌}
+use mathlib.Core.Path.{sym, ap, ◌∙◌, subst}
+use Prim.Native.Nat.{ℕ}
 use native.Mathlib.Omega.{arith}
 use lib.ListN.{length}
-use Rattle.choice.specs.Calls.{listing, room_cycle_breaking_nodes_scanning, cycle_broken_keeping, cycle_breaking_nodes_scanning_call}
+use Rattle.choice.specs.Calls.{cycle_breaking_nodes_scanning_call, listing, room_cycle_breaking_nodes_scanning, cycle_broken_keeping}
 use Rattle.choice.specs.Keeping.{chosen_keeping}
 use Rattle.form.specs.Form.{Gives}
-use Rattle.form.specs.Stored.{stored_of, graph_of, format_of, Stored}
+use Rattle.form.specs.Stored.{graph_of, format_of}
 use Rattle.form.specs.declared.Sizes.{Sizes}
 use Rattle.graph.specs.Answer.{Answer, Result, ◌>>=◌}
 use Rattle.graph.specs.Graph.{Graph}
 use Rattle.graph.specs.Versions as versions
-use Rattle.le.specs.Rows.{row_at, span}
-use Rattle.form.proofs.Answers.{room_enough, gives_refused, passed_on}
+use Rattle.form.proofs.Answers.{room_enough, gives_passed}
 use Rattle.form.proofs.Listed.{ids_given_lem, ids_below}
 use Rattle.form.proofs.Spared.{room_short, graph_unread, list_bad, graph_paired, graph_spared}
-use Rattle.form.proofs.Stored.{stored_bytes, stored_rows}
+use Rattle.form.proofs.Drawn.{stored_in, at_source}
+use Rattle.form.proofs.Stored.{stored_rows}
 use Rattle.sweeps.proofs.Form.{is_nodes, is_edges, is_all, drawn}
 use Rattle.scan.proofs.Answering.{keeping_refused, keeping_counted, keeping_listed_lem}
 use Rattle.scan.proofs.cycle_breaking_nodes_scanning.Goals as goal
-use Rattle.scan.proofs.cycle_breaking_nodes_scanning.Goals.{After-mark_nodes-arg-1, After-put_answer-arg-1, After-refusal-in_default-ids, After-refusal-in_default-marked, After-refusal-in_default-pairs, After-slice_known-4-1, In-Sized}
 
 -- what follows 8
 abbrev next : ℕ → versions.StoredGraph → List ℕ → Graph → Answer Result
 next room s kept g = chosen_keeping kept g >>= listing s.format room
 
--- the form that was read
-form : (c : In-Sized) → Stored c.args.src.now c.in-Sized.z
-form c = stored_bytes c.read-graph.ensures c.type_inv.src c.in-Sized.is
-
--- the form that was read
-form_2 : (c : After-refusal-in_default-ids) → Stored c.args.src.now c.in-Sized.z
-form_2 c = stored_bytes c.read-graph.ensures c.type_inv.src c.in-Sized.is
-
--- the form that was read
-form_3 : (c : After-refusal-in_default-pairs) → Stored c.args.src.now c.in-Sized.z
-form_3 c = stored_bytes c.read-graph.ensures c.type_inv.src c.in-Sized.is
-
--- the form that was read
-form_4 : (c : After-mark_nodes-arg-1) → Stored c.args.src.now c.in-Sized.z
-form_4 c = stored_bytes c.read-graph.ensures c.type_inv.src c.in-Sized.is
-
--- the room is long enough
-long : (c : After-mark_nodes-arg-1) → room_cycle_breaking_nodes_scanning ≤ length c.args.room.now
-long c = let w = c.work_room-lent in room_enough room_cycle_breaking_nodes_scanning _ w.result w.ensures _ c.in-Number.is
-
--- the form that was read
-form_5 : (c : After-refusal-in_default-marked) → Stored c.args.src.now c.in-Sized.z
-form_5 c = stored_bytes c.read-graph.ensures c.type_inv.src c.in-Sized.is
-
--- the kept nodes
-abbrev kept : After-refusal-in_default-marked → List ℕ
-kept c = span c.args.kept.now (row_at 0 c.in-Sized.z.width) 0 c.in-Number-ids.count
-
--- no refusal was met up to 8
-whole : (c : After-refusal-in_default-marked) → let a = c.args in
-    cycle_breaking_nodes_scanning_call a.src.now a.kept.now (length a.list.now) (length a.room.now) ≡ next (length a.list.now) (stored_of a.src.now) (kept c) (graph_of a.src.now)
+pub returns-in_err-work_room : goal.returns-in_err-work_room
 unfolding cycle_broken_keeping
-whole c = let a = c.args in
-    let w = c.work_room-lent in
-    let l = c.id_list-ids in
-    let p = c.unpaired-pairs in
-    graph_spared a.src.now a.kept.now room_cycle_breaking_nodes_scanning _ (next (length a.list.now)) w.result w.ensures _ c.in-Number.is (form_5 c) l.result l.ensures _ c.in-Number-ids.is p.result p.ensures _ c.in-Number-pairs.is
-
--- the form that was read
-form_6 : (c : After-put_answer-arg-1) → Stored c.args.src.now c.in-Sized.z
-form_6 c = stored_bytes c.read-graph.ensures c.type_inv.src c.in-Sized.is
-
--- the kept nodes
-abbrev kept_2 : After-put_answer-arg-1 → List ℕ
-kept_2 c = span c.args.kept.now (row_at 0 c.in-Sized.z.width) 0 c.in-Number-ids.count
-
--- the room is long enough
-long_2 : (c : After-put_answer-arg-1) → room_cycle_breaking_nodes_scanning ≤ length c.args.room.now
-long_2 c = let w = c.work_room-lent in room_enough room_cycle_breaking_nodes_scanning _ w.result w.ensures _ c.in-Number.is
-
--- the form that was read
-form_7 : (c : After-slice_known-4-1) → Stored c.args.src.now c.in-Sized.z
-form_7 c = stored_bytes c.read-graph.ensures c.type_inv.src c.in-Sized.is
-
--- the kept nodes
-abbrev kept_3 : After-slice_known-4-1 → List ℕ
-kept_3 c = span c.args.kept.now (row_at 0 c.in-Sized.z.width) 0 c.in-Number-ids.count
-
--- no refusal was met up to 8
-whole_2 : (c : After-slice_known-4-1) → let a = c.args in
-    cycle_breaking_nodes_scanning_call a.src.now a.kept.now (length a.list.now) (length a.room.now) ≡ next (length a.list.now) (stored_of a.src.now) (kept_3 c) (graph_of a.src.now)
-unfolding cycle_broken_keeping
-whole_2 c = let a = c.args in
-    let w = c.work_room-lent in
-    let l = c.id_list-ids in
-    let p = c.unpaired-pairs in
-    graph_spared a.src.now a.kept.now room_cycle_breaking_nodes_scanning _ (next (length a.list.now)) w.result w.ensures _ c.in-Number.is (form_7 c) l.result l.ensures _ c.in-Number-ids.is p.result p.ensures _ c.in-Number-pairs.is
-
-pub returns-in_default : goal.returns-in_default
-unfolding cycle_broken_keeping
-returns-in_default c =
+returns-in_err-work_room c =
     let a = c.args in
-    let w = c.work_room-lent in
-    gives_refused c.refusal.result a.list.now (room_short a.src.now a.kept.now room_cycle_breaking_nodes_scanning _ (next (length a.list.now)) w.result w.ensures _ c.in_default.is _ c.refusal.ensures)
+    gives_passed _ _ c.from_residual.ensures.1 (room_short a.src.now a.kept.now room_cycle_breaking_nodes_scanning _ (next (length a.list.now)) _ c.in_err-work_room.ensures)
 
-pub returns-in_default-graph : goal.returns-in_default-graph
+pub returns-in_err-drawing : goal.returns-in_err-drawing
 unfolding cycle_broken_keeping
-returns-in_default-graph c =
+returns-in_err-drawing c =
     let a = c.args in
-    let w = c.work_room-lent in
-    let g = c.read-graph in
-    gives_refused c.refusal-in_default-graph.result a.list.now
-    (graph_unread a.src.now a.kept.now room_cycle_breaking_nodes_scanning _ (next (length a.list.now)) w.result w.ensures _ c.in-Number.is g.result g.ensures _ c.in_default-graph.is _ c.refusal-in_default-graph.ensures)
+    gives_passed _ _ c.from_residual-in_err-drawing.ensures.1
+    (graph_unread a.src.now a.kept.now room_cycle_breaking_nodes_scanning _ (next (length a.list.now)) c.in_ok-work_room.ensures _ c.in_err-drawing.ensures.sizes)
 
-pub id_list-ids-requires : goal.id_list-ids-requires
-id_list-ids-requires c = (stored_rows (form c)).low.width
+pub id_list-requires : goal.id_list-requires
+id_list-requires c = (stored_rows (stored_in c.in_ok-drawing.drawing)).low.width
 
-pub returns-in_default-ids : goal.returns-in_default-ids
+pub returns-in_err-count : goal.returns-in_err-count
 unfolding cycle_broken_keeping
-returns-in_default-ids c =
+returns-in_err-count c =
     let a = c.args in
-    let w = c.work_room-lent in
-    let l = c.id_list-ids in
-    gives_refused c.refusal-in_default-ids.result a.list.now
-    (list_bad a.src.now a.kept.now room_cycle_breaking_nodes_scanning _ (next (length a.list.now)) w.result w.ensures _ c.in-Number.is (form_2 c) l.result l.ensures _ c.in_default-ids.is _ c.refusal-in_default-ids.ensures)
+    let b = c.in_ok-drawing.drawing.src.now in
+    let s = stored_in c.in_ok-drawing.drawing in
+    at_source (λ b. Gives (cycle_breaking_nodes_scanning_call b a.kept.now (length a.list.now) (length a.room.now)) c.from_residual-in_err-count.result a.list.now a.list.now) c.in_ok-drawing.ensures.source
+    (gives_passed _ _ c.from_residual-in_err-count.ensures.1
+    (list_bad b a.kept.now room_cycle_breaking_nodes_scanning _ (next (length a.list.now)) c.in_ok-work_room.ensures s _ c.in_err-count.ensures))
 
-pub returns-in_default-pairs : goal.returns-in_default-pairs
+pub returns-in_err-unpaired : goal.returns-in_err-unpaired
 unfolding cycle_broken_keeping
-returns-in_default-pairs c =
+returns-in_err-unpaired c =
     let a = c.args in
-    let w = c.work_room-lent in
-    let l = c.id_list-ids in
-    let p = c.unpaired-pairs in
-    gives_refused c.refusal-in_default-pairs.result a.list.now
-    (graph_paired a.src.now a.kept.now room_cycle_breaking_nodes_scanning _ (next (length a.list.now)) w.result w.ensures _ c.in-Number.is (form_3 c) l.result l.ensures _ c.in-Number-ids.is p.result p.ensures _ c.in_default-pairs.is _ c.refusal-in_default-pairs.ensures)
+    let b = c.in_ok-drawing.drawing.src.now in
+    let s = stored_in c.in_ok-drawing.drawing in
+    at_source (λ b. Gives (cycle_breaking_nodes_scanning_call b a.kept.now (length a.list.now) (length a.room.now)) c.from_residual-in_err-unpaired.result a.list.now a.list.now) c.in_ok-drawing.ensures.source
+    (gives_passed _ _ c.from_residual-in_err-unpaired.ensures.1
+    (graph_paired b a.kept.now room_cycle_breaking_nodes_scanning _ (next (length a.list.now)) c.in_ok-work_room.ensures s _ c.in_ok-count.ensures _ c.in_err-unpaired.ensures))
 
-pub mark_nodes-marked-requires : goal.mark_nodes-marked-requires
-mark_nodes-marked-requires c =
-    let s = form_4 c in
-    let l = c.id_list-ids in
-    let e = c.in-Number-ids.is in
-    record { room_cycle_breaking_nodes_scanning_in_bounds = long c; stored = (s, (ids_given_lem s _ _ l.result l.ensures _ e).there, ids_below s _ _ l.result l.ensures _ e) }
+pub mark_nodes-requires : goal.mark_nodes-requires
+mark_nodes-requires c =
+    let s = stored_in c.in_ok-drawing.drawing in
+    let n = c.in_ok-count in
+    record {
+      room_cycle_breaking_nodes_scanning_in_bounds = room_enough room_cycle_breaking_nodes_scanning _ c.in_ok-work_room.ensures;
+      stored = ((ids_given_lem s _ _ _ n.ensures).there, ids_below s _ _ _ n.ensures);
+    }
 
-pub returns-in_default-marked : goal.returns-in_default-marked
-returns-in_default-marked c =
+pub returns-in_err-free : goal.returns-in_err-free
+unfolding cycle_broken_keeping
+returns-in_err-free c =
     let a = c.args in
-    let f = c.mark_nodes-marked in
-    let s = form_5 c in
-    gives_refused c.refusal-in_default-marked.result a.list.now
-    (whole c ∙ keeping_refused (kept c) (graph_of a.src.now) (drawn s) _ _ (is_nodes s) (is_all s) f.new.room f.result f.ensures c.refusal-in_default-marked.result (passed_on c.in_default-marked.is c.refusal-in_default-marked.ensures) (format_of a.src.now) (length a.list.now))
+    let b = c.in_ok-drawing.drawing.src.now in
+    let s = stored_in c.in_ok-drawing.drawing in
+    at_source (λ b. Gives (cycle_breaking_nodes_scanning_call b a.kept.now (length a.list.now) (length a.room.now)) c.from_residual-in_err-free.result a.list.now a.list.now) c.in_ok-drawing.ensures.source
+    (gives_passed _ _ c.from_residual-in_err-free.ensures.1
+    (graph_spared b a.kept.now room_cycle_breaking_nodes_scanning _ (next (length a.list.now)) c.in_ok-work_room.ensures s _ c.in_ok-count.ensures c.in_ok-unpaired.ensures
+    ∙ keeping_refused _ (graph_of b) (drawn s) _ _ (is_nodes s) (is_all s) _ _ c.in_err-free.ensures (format_of b) (length a.list.now)))
 
 pub put_answer-requires : goal.put_answer-requires
 put_answer-requires c =
-    let s = form_6 c in
+    let s = stored_in c.in_ok-drawing.drawing in
     let d = drawn s in
-    let f = c.mark_nodes-marked in
-    let room = long_2 c in record { most_nodes_in_bounds = (omega (arith, room, f.auto.room), (stored_rows s).low.width, omega (arith, is_nodes s, d.few_nodes), omega (arith, is_nodes s, is_edges s, d.few)); free_len = keeping_counted (kept_2 c) (graph_of c.args.src.now) d _ _ (is_nodes s) (is_all s) f.new.room f.result f.ensures _ c.in-Number-marked.is }
+    let room = room_enough room_cycle_breaking_nodes_scanning _ c.in_ok-work_room.ensures in
+    record {
+      most_nodes_in_bounds = (omega (arith, room, c.mark_nodes.auto.room), (stored_rows s).low.width, omega (arith, is_nodes s, d.few_nodes), omega (arith, is_nodes s, is_edges s, d.few));
+      free_len = keeping_counted _ (graph_of c.in_ok-drawing.drawing.src.now) d _ _ (is_nodes s) (is_all s) _ _ c.in_ok-free.ensures;
+    }
 
 pub returns : goal.returns
+unfolding cycle_broken_keeping
 returns c =
     let a = c.args in
-    let b = a.src.now in
-    let s = form_7 c in
-    let f = c.mark_nodes-marked in
-    let p = c.put_answer in
-    let width : (format_of b).width ≡ c.in-Sized.z.width = ap (λ (y : Sizes). y.width) (sym s.sizes) in
-    subst (λ (x : Answer Result). Gives x p.result a.list.now p.new.list)
-    (sym (whole_2 c ∙ keeping_listed_lem (kept_3 c) (graph_of b) (drawn s) _ _ (is_nodes s) (is_all s) f.new.room f.result f.ensures _ c.in-Number-marked.is (format_of b) (length a.list.now)))
-    (p.ensures (format_of b) width)
+    let b = c.in_ok-drawing.drawing.src.now in
+    let s = stored_in c.in_ok-drawing.drawing in
+    let is =
+    graph_spared b a.kept.now room_cycle_breaking_nodes_scanning _ (next (length a.list.now)) c.in_ok-work_room.ensures s _ c.in_ok-count.ensures c.in_ok-unpaired.ensures
+    ∙ keeping_listed_lem _ (graph_of b) (drawn s) _ _ (is_nodes s) (is_all s) _ _ c.in_ok-free.ensures (format_of b) (length a.list.now) in
+    at_source (λ b. Gives (cycle_breaking_nodes_scanning_call b a.kept.now (length a.list.now) (length a.room.now)) c.put_answer.result a.list.now c.put_answer.new.list) c.in_ok-drawing.ensures.source
+    (subst (λ (x : Answer Result). Gives x c.put_answer.result a.list.now c.put_answer.new.list) (sym is) (c.put_answer.ensures (format_of b) (ap (λ (y : Sizes). y.width) (sym s.sizes))))

@@ -1,7 +1,6 @@
 -- `scan::put_chosen` meets its contract.
 -- Assumes nothing.
 use mathlib.Core.Path.{refl, sym, ap, ◌∙◌}
-use native.Mathlib.Nat.{le_antisymm}
 use native.Mathlib.Omega.{arith}
 use lib.ListN.{length-append, length}
 use Rattle.choice.specs.Passing.{shown, shown_below}
@@ -29,8 +28,3 @@ loop-v-preserved c = let a = c.args in
       shown_turn a.room.now a.list.now l.list o.new.list a.r l.v l.k l.invariant.1 l.invariant.2 o.ensures.1,
       o.auto.list ∙ l.invariant.3,
     )
-
-pub returns : goal.returns
-returns c = let l = c.loop-v in
-    let e = le_antisymm l.invariant.0 c.loop-v-test.false in
-    rw (← e) l.invariant.2

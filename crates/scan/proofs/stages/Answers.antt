@@ -14,105 +14,84 @@ use Rattle.scan.specs.Stages.{Top}
 use Rattle.sweeps.proofs.Form.{is_nodes, is_all, drawn}
 use Rattle.scan.proofs.Choosing.{pick_size}
 use Rattle.scan.proofs.Staging.{run_start, run_stuck, run_turn, run_done}
+use Rattle.form.proofs.Drawn.{stored_in}
 use Rattle.scan.proofs.stages.Goals as goal
-use Rattle.scan.proofs.stages.Goals.{After-loop-gone, After-slice_known-in-loop-gone-1, After-struct_known-1, At-loop-gone, Else-best-eq0, Then-best-eq0}
+use Rattle.scan.proofs.stages.Goals.{After-best_node-best, After-settle-gone, At-loop-gone}
 
 positive : {k : ℕ} → (k ≡ 0 → ⊥) → 0 < k
 positive {k} f = ⊎_elim (λ e. absurd (f e)) (λ l. l) (eq-zero-or-pos k)
 
 -- at each test: how many there are
-few : (c : At-loop-gone) → (c.loop-gone.gone + c.loop-gone.ids ≤ 32768) × (c.args.z.nodes + c.args.z.edges ≡ vertex_count (graph_of c.args.src.now))
-few c = let s = c.requires.0 in (omega (arith, c.loop-gone.invariant.1, (drawn s).few), is_all s)
-
--- at each test: how many there are
-few_2 : (c : After-struct_known-1) → (c.loop-gone.gone + c.loop-gone.ids ≤ 32768) × (c.args.z.nodes + c.args.z.edges ≡ vertex_count (graph_of c.args.src.now))
-few_2 c = let s = c.requires.0 in (omega (arith, c.loop-gone.invariant.1, (drawn s).few), is_all s)
+few : (c : At-loop-gone) → (c.loop-gone.gone + c.loop-gone.ids ≤ 32768) × (c.args.drawing.sizes.nodes + c.args.drawing.sizes.edges ≡ vertex_count (graph_of c.args.drawing.src.now))
+few c = let s = stored_in c.args.drawing in (omega (arith, c.loop-gone.invariant.1, (drawn s).few), is_all s)
 
 -- the best of the graph's nodes
-top : (c : Then-best-eq0) → Top c.loop-gone.room (length (graph_of c.args.src.now).labels) c.best_node-best.result
-top c = subst (λ (k : ℕ). Top c.loop-gone.room k c.best_node-best.result) (is_nodes c.requires.0) c.best_node-best.ensures
-
--- at each test: how many there are
-few_3 : (c : Then-best-eq0) → (c.loop-gone.gone + c.loop-gone.ids ≤ 32768) × (c.args.z.nodes + c.args.z.edges ≡ vertex_count (graph_of c.args.src.now))
-few_3 c = let s = c.requires.0 in (omega (arith, c.loop-gone.invariant.1, (drawn s).few), is_all s)
-
--- something remains
-some : (c : Then-best-eq0) → 0 < size (left (vertex_count (graph_of c.args.src.now)) c.loop-gone.room)
-some c = positive (λ z. c.loop-gone-test.true (omega (arith, c.loop-gone.invariant.1, (few_3 c).1, z)))
-
--- the best of the graph's nodes
-top_2 : (c : Else-best-eq0) → Top c.loop-gone.room (length (graph_of c.args.src.now).labels) c.best_node-best.result
-top_2 c = subst (λ (k : ℕ). Top c.loop-gone.room k c.best_node-best.result) (is_nodes c.requires.0) c.best_node-best.ensures
-
--- at each test: how many there are
-few_4 : (c : Else-best-eq0) → (c.loop-gone.gone + c.loop-gone.ids ≤ 32768) × (c.args.z.nodes + c.args.z.edges ≡ vertex_count (graph_of c.args.src.now))
-few_4 c = let s = c.requires.0 in (omega (arith, c.loop-gone.invariant.1, (drawn s).few), is_all s)
-
--- the best of the graph's nodes
-top_3 : (c : After-slice_known-in-loop-gone-1) → Top c.loop-gone.room (length (graph_of c.args.src.now).labels) c.best_node-best.result
-top_3 c = subst (λ (k : ℕ). Top c.loop-gone.room k c.best_node-best.result) (is_nodes c.requires.0) c.best_node-best.ensures
+top : (c : After-best_node-best) → Top c.loop-gone.room (length (graph_of c.args.drawing.src.now).labels) c.best_node-best.result
+top c = subst (λ (k : ℕ). Top c.loop-gone.room k c.best_node-best.result) (is_nodes (stored_in c.args.drawing)) c.best_node-best.ensures
 
 -- what remains after the stage
-fewer : (c : After-slice_known-in-loop-gone-1) → let n = vertex_count (graph_of c.args.src.now) in
+fewer : (c : After-settle-gone) → Top c.loop-gone.room (length (graph_of c.args.drawing.src.now).labels) c.best_node-best.result
+    → let n = vertex_count (graph_of c.args.drawing.src.now) in
     c.settle-gone.result + size (left n c.settle-gone.new.room) + 1 ≡ size (left n c.loop-gone.room)
-fewer c = let l = c.loop-gone in
+fewer c top =
+    let l = c.loop-gone in
     omega (
       arith,
       c.settle-gone.ensures.moves.fewer,
-      pick_size (graph_of c.args.src.now) (drawn c.requires.0) l.room (omega (arith, c.requires.1, l.invariant.0)) c.best_node-best.result (top_3 c) c.if-best-eq0.false,
+      pick_size (graph_of c.args.drawing.src.now) (drawn (stored_in c.args.drawing)) l.room (omega (arith, c.requires.0, l.invariant.0)) c.best_node-best.result top c.if-best-eq0.false,
     )
-
--- at each test: how many there are
-few_5 : (c : After-loop-gone) → (c.loop-gone.gone + c.loop-gone.ids ≤ 32768) × (c.args.z.nodes + c.args.z.edges ≡ vertex_count (graph_of c.args.src.now))
-few_5 c = let s = c.requires.0 in (omega (arith, c.loop-gone.invariant.1, (drawn s).few), is_all s)
 
 pub loop-gone-init : goal.loop-gone-init
 loop-gone-init c =
-    let all = is_all c.requires.0 in
-    let e : c.args.free + size (left (vertex_count (graph_of c.args.src.now)) c.args.room.now) ≡ vertex_count (graph_of c.args.src.now) =
-    subst (λ (k : ℕ). c.args.free + size (left k c.args.room.now) ≡ k) all c.requires.2 in
-    (refl, omega (arith, e), λ kept b. run_start kept (graph_of c.args.src.now) c.args.room.now c.args.free b)
-
-pub overflow_add-gone : goal.overflow_add-gone
-overflow_add-gone c = omega (arith, (few c).0)
-
-pub overflow_add-z : goal.overflow_add-z
-overflow_add-z c = omega (arith, (few_2 c).1, (drawn c.requires.0).few)
+    let g = graph_of c.args.drawing.src.now in
+    let e = subst (λ (k : ℕ). c.args.free + size (left k c.args.room.now) ≡ k) (is_all (stored_in c.args.drawing)) c.requires.1 in
+    (refl, omega (arith, e), λ kept b. run_start kept g c.args.room.now c.args.free b)
 
 pub best_node-best-requires : goal.best_node-best-requires
-best_node-best-requires c = (omega (arith, is_nodes c.requires.0, (drawn c.requires.0).few_nodes), omega (arith, c.requires.1, c.loop-gone.invariant.0))
+best_node-best-requires c = let s = stored_in c.args.drawing in (omega (arith, is_nodes s, (drawn s).few_nodes), omega (arith, c.requires.0, c.loop-gone.invariant.0))
+
+pub bounds-room-v : goal.bounds-room-v
+bounds-room-v c =
+    let best = top (goal.at.bounds-room-v c).After-best_node-best in
+    let s = stored_in c.args.drawing in
+    omega (arith, (best.is c.if-best-eq0.false).0, (drawn s).few_nodes, c.requires.0, c.loop-gone.invariant.0)
+
+pub overflow_add-ids : goal.overflow_add-ids
+overflow_add-ids c = omega (arith, (few (goal.at.overflow_add-ids c).At-loop-gone).0)
+
+pub overflow_add-gone : goal.overflow_add-gone
+overflow_add-gone c = omega (arith, (few (goal.at.overflow_add-gone c).At-loop-gone).0)
 
 pub returns-then-best-eq0 : goal.returns-then-best-eq0
 returns-then-best-eq0 c kept b =
     let l = c.loop-gone in
-    run_stuck (graph_of c.args.src.now) (drawn c.requires.0) kept l.room (omega (arith, c.requires.1, l.invariant.0)) l.gone (l.invariant.2 kept b) c.best_node-best.result (top c) c.if-best-eq0.true (some c)
-
-pub bounds-room-v : goal.bounds-room-v
-bounds-room-v c = omega (arith, ((top_2 c).is c.if-best-eq0.false).0, (drawn c.requires.0).few_nodes, c.requires.1, c.loop-gone.invariant.0)
-
-pub overflow_add-ids : goal.overflow_add-ids
-overflow_add-ids c = omega (arith, (few_4 c).0)
-
-pub settle-gone-requires : goal.settle-gone-requires
-settle-gone-requires c = (c.requires.0, omega (arith, c.requires.1, c.loop-gone.invariant.0, length-set c.loop-gone.room c.best_node-best.result.node 2))
+    let at = goal.at.returns-then-best-eq0 c in
+    let some : 0 < size (left (vertex_count (graph_of c.args.drawing.src.now)) l.room) = positive (λ z. c.loop-gone-test.true (omega (arith, l.invariant.1, (few at.At-loop-gone).1, z))) in
+    run_stuck (graph_of c.args.drawing.src.now) (drawn (stored_in c.args.drawing)) kept l.room (omega (arith, c.requires.0, l.invariant.0)) l.gone (l.invariant.2 kept b) c.best_node-best.result (top at.After-best_node-best) c.if-best-eq0.true some
 
 pub overflow_add-gone-in-loop-gone : goal.overflow_add-gone-in-loop-gone
-overflow_add-gone-in-loop-gone c = omega (arith, fewer c, c.loop-gone.invariant.1, (drawn c.requires.0).few)
+overflow_add-gone-in-loop-gone c =
+    let at = goal.at.overflow_add-gone-in-loop-gone c in
+    omega (arith, fewer at.After-settle-gone (top at.After-best_node-best), c.loop-gone.invariant.1, (drawn (stored_in c.args.drawing)).few)
 
 pub loop-gone-smaller : goal.loop-gone-smaller
-loop-gone-smaller c = omega (arith, fewer c)
+loop-gone-smaller c =
+    let at = goal.at.loop-gone-smaller c in
+    omega (arith, fewer at.After-settle-gone (top at.After-best_node-best))
 
 pub loop-gone-preserved : goal.loop-gone-preserved
 loop-gone-preserved c =
     let l = c.loop-gone in
     let b = c.best_node-best.result in
-    let o = c.settle-gone in (
+    let o = c.settle-gone in
+    let at = goal.at.loop-gone-preserved c in
+    let best = top at.After-best_node-best in (
       o.auto.room ∙ length-set l.room b.node 2 ∙ l.invariant.0,
-      omega (arith, fewer c, l.invariant.1),
-      λ kept begun. run_turn (graph_of c.args.src.now) (drawn c.requires.0) kept l.room (omega (arith, c.requires.1, l.invariant.0)) l.gone (l.invariant.2 kept begun) b (top_3 c) c.if-best-eq0.false o.new.room o.result o.ensures,
+      omega (arith, fewer at.After-settle-gone best, l.invariant.1),
+      λ kept begun. run_turn (graph_of c.args.drawing.src.now) (drawn (stored_in c.args.drawing)) kept l.room (omega (arith, c.requires.0, l.invariant.0)) l.gone (l.invariant.2 kept begun) b best c.if-best-eq0.false o.new.room o.result o.ensures,
     )
 
 pub returns : goal.returns
 returns c kept b =
     let l = c.loop-gone in
-    run_done (graph_of c.args.src.now) (drawn c.requires.0) kept l.room (omega (arith, c.requires.1, l.invariant.0)) l.gone (l.invariant.2 kept b) (omega (arith, l.invariant.1, (few_5 c).1, c.loop-gone-test.false))
+    run_done (graph_of c.args.drawing.src.now) (drawn (stored_in c.args.drawing)) kept l.room (omega (arith, c.requires.0, l.invariant.0)) l.gone (l.invariant.2 kept b) (omega (arith, l.invariant.1, (few (goal.at.returns c).At-loop-gone).1, c.loop-gone-test.false))

@@ -13,8 +13,8 @@ use Rattle.scan.proofs.Staging.{Run}
 use Rattle.scan.proofs.stages.Given as goal
 
 abbrev pub invariant-loop-gone : goal.invariant-loop-gone
-invariant-loop-gone l = (length l.room ≡ length l.initial.room) × (l.gone + l.ids + size (left (vertex_count (graph_of l.src)) l.room) ≡ vertex_count (graph_of l.src)) × ((kept : List ℕ) → Begun kept (graph_of l.src) l.initial.room l.free → Run kept (graph_of l.src) l.room l.gone)
+invariant-loop-gone l = (length l.room ≡ length l.initial.room) × (l.gone + l.ids + size (left (vertex_count (graph_of l.drawing.src.now)) l.room) ≡ vertex_count (graph_of l.drawing.src.now)) × ((kept : List ℕ) → Begun kept (graph_of l.drawing.src.now) l.initial.room l.free → Run kept (graph_of l.drawing.src.now) l.room l.gone)
 
 -- each stage takes away what it chooses
 abbrev pub decreases-loop-gone : goal.decreases-loop-gone
-decreases-loop-gone l = size (left (vertex_count (graph_of l.src)) l.room)
+decreases-loop-gone l = size (left (vertex_count (graph_of l.drawing.src.now)) l.room)

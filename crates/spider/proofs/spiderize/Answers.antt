@@ -1,106 +1,71 @@
 -- `spider::spiderize` meets its contract.
 -- Assumes nothing.
 use mathlib.Core.List.{[]}
-use mathlib.Core.Path.{◌≡◌}
+use mathlib.Core.Path.{◌≡◌, ◌∙◌}
 use Prim.Native.Nat.{◌≤◌}
+use native.Mathlib.Omega.{arith}
 use lib.ListN.{length}
-use Rattle.form.specs.Stored.{graph_of}
+use Rattle.form.proofs.Answers.{refused_so, work_short, work_enough, room_enough, gives_passed}
+use Rattle.form.proofs.Stored.{unread}
+use Rattle.form.specs.Drawn.{graph_in}
 use Rattle.graph.specs.Calls.{room_spiderize, spiderize_all_step}
 use Rattle.graph.specs.Lists.{among, range}
 use Rattle.graph.proofs.Spidered.{spiderize_all_11}
-use Rattle.le.proofs.Numbers.{below_each}
 use Rattle.links.specs.Links.{cells, is_listed, Linked}
-use Rattle.quotient.proofs.Calls.{told_refused}
-use Rattle.write.proofs.Calls.{gives_by}
+use Rattle.write.proofs.Calls.{gives_by, graph_unread}
+use Rattle.quotient.proofs.Calls.{Told, classes_told}
 use Rattle.copying.specs.Merged.{table_of}
-use Rattle.spider.proofs.Calls.{Opened, opened, short, unreadable, stopped, listed_all}
-use Rattle.copying.proofs.Ready.{Told, classes_told, classes_few, told_kept, ready, step_all}
-use native.Mathlib.Omega.{arith}
+use Rattle.copying.proofs.Ready.{classes_few, told_kept, ready, step_all}
+use Rattle.spider.proofs.Calls.{words_enough, stopped, given, listed_all}
 use Rattle.spider.proofs.spiderize.Goals as goal
-use Rattle.spider.proofs.spiderize.Goals.{After-list_every-arg-1, After-map_classes-arg-1, After-refusal-in_default-merging, After-slice_known-6-1, After-write_spiderized-arg-2-1}
+use Rattle.spider.proofs.spiderize.Goals.{After-list_every, In_ok-nodes, In_ok-drawing}
 
--- the form that was read, in work room enough
-form : (c : After-map_classes-arg-1) → Opened c.args.src.now (length c.args.room.now) c.in-Sized.z
-form c = let b = c.args.src.now in
-    opened b _ c.work_room-lent.ensures c.in-Number.is c.read-graph.ensures (below_each 256 b (λ i l. omega (arith, c.type_inv.src i))) c.in-Sized.is
-
--- the form that was read, in work room enough
-form_2 : (c : After-refusal-in_default-merging) → Opened c.args.src.now (length c.args.room.now) c.in-Sized.z
-form_2 c = let b = c.args.src.now in
-    opened b _ c.work_room-lent.ensures c.in-Number.is c.read-graph.ensures (below_each 256 b (λ i l. omega (arith, c.type_inv.src i))) c.in-Sized.is
-
--- the form that was read, in work room enough
-form_3 : (c : After-list_every-arg-1) → Opened c.args.src.now (length c.args.room.now) c.in-Sized.z
-form_3 c = let b = c.args.src.now in
-    opened b _ c.work_room-lent.ensures c.in-Number.is c.read-graph.ensures (below_each 256 b (λ i l. omega (arith, c.type_inv.src i))) c.in-Sized.is
+-- there is work room enough
+roomy : (c : In_ok-drawing) → room_spiderize ≤ length c.args.room.now
+roomy c = room_enough room_spiderize _ c.in_ok-work_room.ensures
 
 -- the classes that were found
-told : (c : After-list_every-arg-1) → Told c.args.src.now c.in-Number-merging.nodes c.map_classes-merging.new.room
-told c = classes_told c.map_classes-merging.ensures c.in-Number-merging.is
+told : (c : In_ok-nodes) → Told c.in_ok-drawing.drawing.src.now c.in_ok-nodes.nodes c.map_classes.new.room
+told c = classes_told c.in_ok-nodes.ensures
 
-roomy : (c : After-list_every-arg-1) → room_spiderize ≤ length c.map_classes-merging.new.room
-roomy c = omega (arith, (form_3 c).roomy, c.map_classes-merging.auto.room)
+-- and with the table behind them, which lists all nodes
+behind : (c : After-list_every) → Told c.in_ok-drawing.drawing.src.now c.in_ok-nodes.nodes c.list_every.new.room
+behind c = told_kept c.in_ok-drawing.drawing (classes_told c.in_ok-nodes.ensures) c.list_every.ensures
 
--- the form that was read, in work room enough
-form_4 : (c : After-write_spiderized-arg-2-1) → Opened c.args.src.now (length c.args.room.now) c.in-Sized.z
-form_4 c = let b = c.args.src.now in
-    opened b _ c.work_room-lent.ensures c.in-Number.is c.read-graph.ensures (below_each 256 b (λ i l. omega (arith, c.type_inv.src i))) c.in-Sized.is
+listed : (c : After-list_every) → (is_listed c.in_ok-nodes.nodes (cells (table_of c.list_every.new.room)) ≡ among (range 0 c.in_ok-nodes.nodes))
+    × Linked c.in_ok-nodes.nodes (cells (table_of c.list_every.new.room)) c.in_ok-nodes.nodes (λ k x. [])
+listed c = listed_all c.in_ok-nodes.nodes (cells (table_of c.list_every.new.room)) c.list_every.ensures.heads
 
-roomy_2 : (c : After-write_spiderized-arg-2-1) → room_spiderize ≤ length c.map_classes-merging.new.room
-roomy_2 c = omega (arith, (form_4 c).roomy, c.map_classes-merging.auto.room)
+pub returns-in_err-work_room : goal.returns-in_err-work_room
+returns-in_err-work_room c = gives_passed _ _ c.from_residual.ensures.1 (work_short room_spiderize _ _ _ c.in_err-work_room.ensures)
 
--- the table lists all nodes
-listed : (c : After-write_spiderized-arg-2-1) → (is_listed c.in-Number-merging.nodes (cells (table_of c.list_every.new.room)) ≡ among (range 0 c.in-Number-merging.nodes)) × Linked c.in-Number-merging.nodes (cells (table_of c.list_every.new.room)) c.in-Number-merging.nodes (λ k x. [])
-listed c = listed_all c.in-Number-merging.nodes (cells (table_of c.list_every.new.room)) c.list_every.ensures.heads
+pub returns-in_err-drawing : goal.returns-in_err-drawing
+returns-in_err-drawing c =
+    gives_passed _ _ c.from_residual-in_err-drawing.ensures.1 (work_enough room_spiderize _ _ c.in_ok-work_room.ensures ∙ graph_unread _ _ _ (unread _ _ c.in_err-drawing.ensures.sizes))
 
--- the classes that were found
-told_2 : (c : After-write_spiderized-arg-2-1) → Told c.args.src.now c.in-Number-merging.nodes c.map_classes-merging.new.room
-told_2 c = classes_told c.map_classes-merging.ensures c.in-Number-merging.is
+pub map_classes-requires : goal.map_classes-requires
+map_classes-requires c = words_enough c.in_ok-drawing.drawing (roomy (goal.at.map_classes-requires c).In_ok-drawing)
 
--- the classes, with the table behind them
-behind : (c : After-write_spiderized-arg-2-1) → Told c.args.src.now c.in-Number-merging.nodes c.list_every.new.room
-behind c = told_kept (form_4 c).form (told_2 c) c.list_every.ensures
-
--- the form that was read, in work room enough
-form_5 : (c : After-slice_known-6-1) → Opened c.args.src.now (length c.args.room.now) c.in-Sized.z
-form_5 c = let b = c.args.src.now in
-    opened b _ c.work_room-lent.ensures c.in-Number.is c.read-graph.ensures (below_each 256 b (λ i l. omega (arith, c.type_inv.src i))) c.in-Sized.is
-
--- the table lists all nodes
-listed_2 : (c : After-slice_known-6-1) → (is_listed c.in-Number-merging.nodes (cells (table_of c.list_every.new.room)) ≡ among (range 0 c.in-Number-merging.nodes)) × Linked c.in-Number-merging.nodes (cells (table_of c.list_every.new.room)) c.in-Number-merging.nodes (λ k x. [])
-listed_2 c = listed_all c.in-Number-merging.nodes (cells (table_of c.list_every.new.room)) c.list_every.ensures.heads
-
--- the classes that were found
-told_3 : (c : After-slice_known-6-1) → Told c.args.src.now c.in-Number-merging.nodes c.map_classes-merging.new.room
-told_3 c = classes_told c.map_classes-merging.ensures c.in-Number-merging.is
-
--- the classes, with the table behind them
-behind_2 : (c : After-slice_known-6-1) → Told c.args.src.now c.in-Number-merging.nodes c.list_every.new.room
-behind_2 c = told_kept (form_5 c).form (told_3 c) c.list_every.ensures
-
-pub returns-in_default : goal.returns-in_default
-returns-in_default c = let a = c.args in short a.src.now _ c.work_room-lent.ensures (λ f. spiderize_all_step) a.out.now c.in_default.is c.refusal.ensures
-
-pub returns-in_default-graph : goal.returns-in_default-graph
-returns-in_default-graph c = let a = c.args in unreadable a.src.now _ c.work_room-lent.ensures (λ f. spiderize_all_step) a.out.now c.in-Number.is c.read-graph.ensures c.in_default-graph.is c.refusal-in_default-graph.ensures
-
-pub map_classes-merging-requires : goal.map_classes-merging-requires
-map_classes-merging-requires c = let o = form c in (o.form, omega (arith, o.roomy, o.nodes, o.form.within.counts.nodes))
-
-pub returns-in_default-merging : goal.returns-in_default-merging
-returns-in_default-merging c =
-    let a = c.args in
-    let r = c.map_classes-merging in
-    let g = graph_of a.src.now in
-    stopped (form_2 c) (λ f. spiderize_all_step) a.out.now c.in_default-merging.is c.refusal-in_default-merging.ensures (spiderize_all_11 g _ (told_refused g _ r.result r.ensures c.in_default-merging.field-0 c.in_default-merging.is))
+pub returns-in_err-nodes : goal.returns-in_err-nodes
+returns-in_err-nodes c =
+    gives_passed _ _ c.from_residual-in_err-nodes.ensures.1
+    (work_enough room_spiderize _ _ c.in_ok-work_room.ensures
+    ∙ stopped c.in_ok-drawing.drawing c.in_ok-drawing.ensures.source (λ f. spiderize_all_step) _ (spiderize_all_11 (graph_in c.in_ok-drawing.drawing) _ (refused_so _ _ _ c.in_err-nodes.ensures.answer)))
 
 pub list_every-requires : goal.list_every-requires
-list_every-requires c = (roomy c, classes_few (form_3 c).form (told c))
+list_every-requires c =
+    let at = goal.at.list_every-requires c in
+    (omega (arith, roomy at.In_ok-drawing, c.map_classes.auto.room), classes_few c.in_ok-drawing.drawing (told at.In_ok-nodes))
 
 pub write_spiderized-requires : goal.write_spiderized-requires
 write_spiderized-requires c =
-    ready (form_4 c).form (behind c) (omega (arith, roomy_2 c, c.list_every.auto.room)) (range 0 c.in-Number-merging.nodes) (listed c)
+    let at = goal.at.write_spiderized-requires c in
+    ready c.in_ok-drawing.drawing (behind at.After-list_every) (omega (arith, roomy at.In_ok-drawing, c.map_classes.auto.room, c.list_every.auto.room)) (range 0 c.in_ok-nodes.nodes)
+    (listed at.After-list_every)
 
 pub returns : goal.returns
 returns c =
-    gives_by ((form_5 c).enough _) (c.write_spiderized.ensures (λ f. spiderize_all_step) (step_all (behind_2 c) (listed_2 c).0))
+    let e = (goal.at.returns c).After-list_every in
+    gives_by (work_enough room_spiderize _ _ c.in_ok-work_room.ensures)
+    (given c.in_ok-drawing.drawing c.in_ok-drawing.ensures.source (λ f. spiderize_all_step)
+    (c.write_spiderized.ensures (λ f. spiderize_all_step) (step_all c.in_ok-drawing.drawing (behind e) (listed e).0)))

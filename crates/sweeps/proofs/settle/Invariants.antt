@@ -9,9 +9,9 @@ use Rattle.marks.specs.Tables.{left}
 use Rattle.sweeps.specs.Sweeps.{Moves, Sweeps}
 use Rattle.sweeps.proofs.settle.Given as goal
 
-abbrev pub invariant-loop-z : goal.invariant-loop-z
-invariant-loop-z l = (length l.room ≡ length l.initial.room) × Moves (graph_of l.src) l.initial.room l.room l.gone × ((m : ℕ) × Sweeps (graph_of l.src) l.initial.room l.room m)
+abbrev pub invariant-loop : goal.invariant-loop
+invariant-loop l = (length l.room ≡ length l.initial.room) × Moves (graph_of l.drawing.src.now) l.initial.room l.room l.gone × ((m : ℕ) × Sweeps (graph_of l.drawing.src.now) l.initial.room l.room m)
 
 -- each sweep but the last takes a node away
-abbrev pub decreases-loop-z : goal.decreases-loop-z
-decreases-loop-z l = size (left (length (graph_of l.src).labels) l.room)
+abbrev pub decreases-loop : goal.decreases-loop
+decreases-loop l = size (left (length (graph_of l.drawing.src.now).labels) l.room)

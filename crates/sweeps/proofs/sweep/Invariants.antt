@@ -9,7 +9,7 @@ use Rattle.sweeps.specs.Sweeps.{Swept}
 use Rattle.sweeps.proofs.sweep.Given as goal
 
 abbrev pub invariant-loop-i : goal.invariant-loop-i
-invariant-loop-i l = (l.i ≤ l.z.edges) × (length l.room ≡ length l.initial.room) × (l.k ≡ edge_start (graph_of l.src).edges l.i) × Swept (graph_of l.src) l.initial.room l.room l.i l.gone.all l.gone.edges
+invariant-loop-i l = (l.i ≤ l.drawing.sizes.edges) × (length l.room ≡ length l.initial.room) × (l.k ≡ edge_start (graph_of l.drawing.src.now).edges l.i) × Swept (graph_of l.drawing.src.now) l.initial.room l.room l.i l.gone.all l.gone.edges
 
 abbrev pub decreases-loop-i : goal.decreases-loop-i
-decreases-loop-i l = l.z.edges - l.i
+decreases-loop-i l = l.drawing.sizes.edges - l.i

@@ -3,15 +3,11 @@
 use mathlib.Core.Path.{sym, ◌∙◌, subst}
 use mathlib.Core.List.{List}
 use Prim.Native.Nat.{ℕ, ◌+◌}
-use native.Mathlib.Omega.{arith}
 use Rattle.le.specs.Rows.{span}
 use Rattle.marks.specs.Tables.{Alike}
 use Rattle.marks.proofs.Tables.{visit_none}
 use Rattle.sweeps.proofs.Hints.{alike_is}
 use Rattle.sweeps.proofs.visit_held.Goals as goal
-
-pub is_held-requires : goal.is_held-requires
-is_held-requires c = let p = c.requires in record { holds = (p.holds.0, p.holds.1, p.holds.3); below = p.below }
 
 pub returns-then-is_held : goal.returns-then-is_held
 returns-then-is_held c =
@@ -20,19 +16,6 @@ returns-then-is_held c =
     let t = span a.src.now a.r (a.e.first + a.e.sources) a.e.targets in
     let w = visit_none s t a.v a.room.now (c.is_held.ensures c.if-is_held.true) in
     record { value = sym w.1; alike = alike_is (sym w.0) }
-
-pub visit-k-requires : goal.visit-k-requires
-visit-k-requires c = let p = c.requires in record { holds = (p.holds.0, p.holds.1, p.holds.3); below = p.below }
-
-pub returns-then-k-ne0 : goal.returns-then-k-ne0
-returns-then-k-ne0 c =
-    let o = c.visit-k in
-    record { value = o.ensures.value; alike = alike_is o.ensures.room_after }
-
-pub hold-requires : goal.hold-requires
-hold-requires c =
-    let p = c.requires in
-    record { holds = (p.holds.0, p.holds.2, omega (arith, p.holds.3, c.visit-k.auto.room)); below = p.below }
 
 pub returns : goal.returns
 returns c =

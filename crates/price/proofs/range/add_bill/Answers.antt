@@ -1,6 +1,5 @@
 -- `price::range::add_bill` meets its contract.
 -- Assumes nothing.
-use Prim.Native.Nat.{◌+◌}
 use native.Mathlib.Omega.{arith}
 use Rattle.le.proofs.Numbers.{below_widen}
 use Rattle.price.proofs.range.add_bill.Goals as goal
@@ -10,16 +9,3 @@ add_counts-parts-requires c =
     let t = c.requires.0 in
     let l = c.requires.1.counts in
     (t.twelve, l.twelve, below_widen c.args.t.parts (omega arith) t.parts, below_widen c.args.bill.counts (omega arith) l.few)
-
-pub returns : goal.returns
-returns c =
-    let a = c.args in
-    λ i. record {
-      drawings = a.t.drawings + 1;
-      priced = a.t.priced + 1;
-      refusals = a.t.refusals;
-      parts = c.add_counts-parts.ensures i;
-      buffers = a.t.buffers + a.bill.buffers;
-      sum = a.t.sum + a.bill.total;
-      dearest = c.dearer_of-dearest.ensures i;
-    }

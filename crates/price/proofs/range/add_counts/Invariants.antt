@@ -1,11 +1,7 @@
--- What the loops of `price::range::add_counts` keep.
+-- What the loop of `price::range::add_counts` keeps: the first k entries have both counts.
 -- Assumes nothing.
-use Prim.Native.Nat.{◌-◌, ◌≤◌}
 use Rattle.price.proofs.Adding.{Half}
 use Rattle.price.proofs.range.add_counts.Given as goal
 
 abbrev pub invariant-loop-k : goal.invariant-loop-k
-invariant-loop-k l = (l.k ≤ 12) × Half l.initial.both l.counts l.both l.k
-
-abbrev pub decreases-loop-k : goal.decreases-loop-k
-decreases-loop-k l = 12 - l.k
+invariant-loop-k l = Half l.initial.both l.fn.counts l.both l.k

@@ -11,8 +11,8 @@ use Rattle.range.proofs.lines.put_back.Goals as goal
 pub returns-clause-printed : goal.returns-clause-printed
 returns-clause-printed c =
     let a = c.args in
-    let index = c.index_of-index in
-    let mean = c.mean_of-mean in
+    let index = c.index_of in
+    let mean = c.mean_of in
     let end = c.put_mean in
     subst (λ (l : List ℕ). Printed a.out.now a.at l end.new.out end.result)
     (λ i. sum_line a.t.sum ++ dearest_line (index.ensures i) ++ mean_line (mean.ensures i).whole (mean.ensures i).rest)
