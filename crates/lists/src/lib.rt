@@ -30,10 +30,13 @@ fn highest_of(s: &[u8], at: usize, n: usize, width: usize) -> u32
     requires { Holds s.now (row_at at width) n }
     ensures { result ≡ highest (span s.now (row_at at width) 0 n) }
 {
+    let end = at + n * width;
     let mut most: u32 = 0;
-    for k in 0..n {
-        let id = number_at(s, at + k * width, width);
+    let mut place = at;
+    while place < end {
+        let id = number_at(s, place, width);
         most = most.max(id as u32);
+        place += width;
     }
     most
 }
