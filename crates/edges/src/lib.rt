@@ -74,7 +74,7 @@ fn read_edge(s: &[u8], f: Format, at: usize, sum: usize, bound: usize) -> Result
 }
 
 // The place of the count with which the edge at a place passes the limit of ports: this is the sum with both of its counts.
-fn count_over(s: &[u8], at: usize, ports: usize, width: usize, limit: usize) -> usize
+pub fn count_over(s: &[u8], at: usize, ports: usize, width: usize, limit: usize) -> usize
     requires { Holds s.now (row_at at width) 2 × (limit < 2 ^ 32) }
     ensures { result ≡ count_over width limit s.now at ports }
 {
