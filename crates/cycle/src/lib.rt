@@ -376,7 +376,7 @@ pub fn cycle_breaking_nodes(src: &[u8], list: &mut [u8], room: &mut [u8]) -> Res
     lists::work_room(room.len(), ROOM_CYCLE_BREAKING_NODES)?;
     let drawing = read::read(src)?;
     lists::unpaired(drawing.sizes)?;
-    choose(drawing, &[], 0, list, room)
+    choose(drawing, &drawing.src[0..0], 0, list, room)
 }
 
 // How many nodes the choice of a stored drawing has, where no node is kept.
@@ -384,7 +384,7 @@ pub fn count_chosen(room: &mut [u8], drawing: Drawing<'_>) -> usize
     requires room_choice_in_bounds { room_choice ≤ length room.old }
     ensures { result ≡ length (chosen (graph_in drawing.entry)).ids }
 {
-    let Ok(free) = flag_nodes(room, drawing, &[], 0) else {
+    let Ok(free) = flag_nodes(room, drawing, &drawing.src[0..0], 0) else {
         return 0; // never: 16 is for kept nodes
     };
     drawing.sizes.nodes + drawing.sizes.edges - free
