@@ -11,7 +11,7 @@ use Rattle.graph.specs.Answer.{refused, refusal}
 use Rattle.steps.specs.Steps.{read_step}
 use Rattle.build.specs.Turns.{number_of, Finds, FoundStep}
 use Rattle.build.specs.declared.StepAt.{StepAt}
-use Rattle.build.proofs.Finding.{unknown, head_cut, lists_cut, whole}
+use Rattle.build.proofs.Finding.{unknown, some, head_cut, lists_cut, whole}
 use Rattle.build.proofs.Steps.{passed_on}
 use Rattle.build.proofs.step_at.Goals as goal
 
@@ -26,14 +26,14 @@ pub returns-then-left-n : goal.returns-then-left-n
 returns-then-left-n c =
     let a = c.args in
     subst (λ (k : ℕ). read_step k (drop (a.place + 1) a.steps.now) ≡ refused (refusal 12)) c.in_ok-kind.ensures
-    (head_cut c.in_ok-kind.kind a.steps.now a.place c.requires (omega (arith, c.head_numbers-n.ensures, c.if-left-n.true)))
+    (head_cut (number_of c.in_ok-kind.kind) a.steps.now a.place c.requires (some c.in_ok-kind.kind) (omega (arith, c.head_numbers-n.ensures, c.if-left-n.true)))
 
 pub returns-then-left-n-2 : goal.returns-then-left-n-2
 returns-then-left-n-2 c =
     let a = c.args in
     let n = c.head_numbers-n.ensures in
     subst (λ (k : ℕ). read_step k (drop (a.place + 1) a.steps.now) ≡ refused (refusal 12)) c.in_ok-kind.ensures
-    (lists_cut c.in_ok-kind.kind a.steps.now a.place c.requires (omega (arith, n, c.if-left-n.false)) c.first_count-first.result c.second_count-second.result c.first_count-first.ensures.0 c.second_count-second.ensures.0 (omega (arith, n, c.if-left-n-2.true)))
+    (lists_cut (number_of c.in_ok-kind.kind) a.steps.now a.place c.requires (some c.in_ok-kind.kind) (omega (arith, n, c.if-left-n.false)) c.first_count-first.result c.second_count-second.result c.first_count-first.ensures.0 c.second_count-second.ensures.0 (omega (arith, n, c.if-left-n-2.true)))
 
 pub returns : goal.returns
 returns c =
