@@ -33,7 +33,7 @@ fn put_new_edge(
 {
     let z = drawing.sizes;
     pieces::put_head(out, y, drawing.src, drawing.labels(), z.nodes);
-    pieces::put_edges(out, drawing, y, label, s, t);
+    pieces::put_edges(out, drawing.src, z, y, label, s, t);
     let lists = drawing.lists();
     let ids = lists + 2;
     pieces::put_both(out, form::body_row(y), ids, z.width, sources, s, targets, t);
@@ -92,7 +92,7 @@ fn put_new_operation(
     let z = drawing.sizes;
     pieces::put_head(out, y, drawing.src, drawing.labels(), z.nodes);
     pieces::put_both(out, form::label_row(y), z.nodes, 4, sources, s, targets, t);
-    pieces::put_edges(out, drawing, y, label, s, t);
+    pieces::put_edges(out, drawing.src, z, y, label, s, t);
     let lists = drawing.lists();
     let ids = lists + 2;
     write::put_range(out, form::body_row(y), ids, z.nodes, s + t);

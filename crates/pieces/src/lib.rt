@@ -6,6 +6,7 @@ ghost use Rattle.le.specs.Rows.{Holds, puts, span};
 ghost use Rattle.graph.specs.Lists.{joined};
 ghost use Rattle.graph.specs.Form.{edge_row};
 ghost use Rattle.form.specs.Form.{body_of, body_size, lists_from};
+ghost use Rattle.form.specs.Stored.{Rows, graph_of};
 ghost use Rattle.form.specs.Drawn.{graph_in};
 ghost use Rattle.write.specs.Write.{drawn, Put, Room};
 ghost use Rattle.pieces.specs.Lent.{Lent, lent};
@@ -74,25 +75,24 @@ pub fn put_both(
 }
 
 // After the node labels: the edge labels of a stored graph and one more, its edges, and the two counts of the new one.
-pub fn put_edges(out: &mut [u8], drawing: Drawing<'_>, y: Sizes, label: u32, s: usize, t: usize)
-    requires { Room out.old y × (y.edges ≡ drawing.sizes.edges + 1) × (lists_from drawing.sizes + 2 ≤ body_size y) × (s < 2 ^ 32) × (t < 2 ^ 32) }
+pub fn put_edges(out: &mut [u8], src: &[u8], z: Sizes, y: Sizes, label: u32, s: usize, t: usize)
+    requires { Rows src.now z (graph_of src.now) × Room out.old y × (y.edges ≡ z.edges + 1) × (lists_from z + 2 ≤ body_size y) × (s < 2 ^ 32) × (t < 2 ^ 32) }
     ensures { (old labels : List ℕ) → length labels ≡ y.nodes → out.old ≡ drawn old y labels []
-        → out.new ≡ drawn old y (labels ++ (map (λ e. e.label) (graph_in drawing.entry).edges ++ (label ∷ []))) (joined edge_row (graph_in drawing.entry).edges ++ (s ∷ t ∷ [])) }
+        → out.new ≡ drawn old y (labels ++ (map (λ e. e.label) (graph_of src.now).edges ++ (label ∷ []))) (joined edge_row (graph_of src.now).edges ++ (s ∷ t ∷ [])) }
 {
-    let z = drawing.sizes;
     let labels = form::label_row(y);
     le::copy_numbers(
         out,
         labels,
         y.nodes,
-        drawing.src,
-        drawing.labels(),
+        src,
+        form::label_row(z),
         z.nodes,
         z.edges,
     );
     le::put_number(out, labels, y.nodes + z.edges, label as usize);
     let body = form::body_row(y);
-    let n = drawing.lists();
-    le::copy_numbers(out, body, 0, drawing.src, drawing.body(), 0, n);
+    let n = 2 * z.edges + z.ports;
+    le::copy_numbers(out, body, 0, src, form::body_row(z), 0, n);
     write::put_two(out, body, n, s, t);
 }

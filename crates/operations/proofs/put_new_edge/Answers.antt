@@ -11,6 +11,7 @@ use Rattle.graph.specs.Graph.{Edge}
 use Rattle.graph.specs.Lists.{joined}
 use Rattle.form.specs.Drawn.{graph_in}
 use Rattle.write.specs.Write.{drawn}
+use Rattle.write.proofs.Results.{room_same}
 use Rattle.form.proofs.Drawn.{stored_in}
 use Rattle.form.proofs.Stored.{nodes_are, stored_rows}
 use Rattle.pieces.specs.Lent.{lent}
@@ -20,6 +21,9 @@ use Rattle.operations.proofs.put_new_edge.Goals as goal
 
 pub put_head-requires : goal.put_head-requires
 put_head-requires c = (c.requires.0, held (stored_rows (stored_in c.args.drawing)).labels_held _ c.labels.ensures _ refl _ (omega arith), omega arith)
+
+pub put_edges-requires : goal.put_edges-requires
+put_edges-requires c = (stored_rows (stored_in c.args.drawing), room_same c.requires.0 _ c.put_head.auto.out, c.requires.2, omega (arith, c.requires.3), c.requires.4, c.requires.5)
 
 pub returns : goal.returns
 returns c =
