@@ -38,7 +38,8 @@ fn put_left_label(
 
 // Of n labels from number k on, those of unmarked ids, in order. Answers where the next one goes. The rows are made here, so that their width is known.
 pub fn put_left_labels(
-    drawing: Drawing<'_>,
+    src: &[u8],
+    z: Sizes,
     k: usize,
     n: usize,
     room: &[u8],
@@ -46,14 +47,14 @@ pub fn put_left_labels(
     y: Sizes,
     first: usize,
 ) -> usize
-    requires { Low y × (n ≤ length room.now) × Holds drawing.src.now (labels_of drawing.sizes) (k + n) × Holds out.old (labels_of y) (first + length (remaining (marked room.now n) 0 (span drawing.src.now (labels_of drawing.sizes) k n))) }
-    ensures { Put out.old (labels_of y) first (remaining (marked room.now n) 0 (span drawing.entry.src.now (labels_of drawing.entry.sizes) k n)) out.new result }
+    requires { Low z × Low y × (n ≤ length room.now) × Holds src.now (labels_of z) (k + n) × Holds out.old (labels_of y) (first + length (remaining (marked room.now n) 0 (span src.now (labels_of z) k n))) }
+    ensures { Put out.old (labels_of y) first (remaining (marked room.now n) 0 (span src.now (labels_of z) k n)) out.new result }
 {
-    let from = drawing.labels();
+    let from = form::label_row(z);
     let to = form::label_row(y);
     let mut j = first;
     for i in 0..n {
-        j = put_left_label(drawing.src, from, k + i, room, i, out, to, j);
+        j = put_left_label(src, from, k + i, room, i, out, to, j);
     }
     j
 }
@@ -89,7 +90,7 @@ pub fn put_without_edges(drawing: Drawing<'_>, y: Sizes, room: &[u8], out: &mut 
     let new_labels = form::label_row(y);
     write::put_header(out, y);
     le::copy_numbers(out, new_labels, 0, src, labels, 0, z.nodes);
-    put_left_labels(drawing, z.nodes, z.edges, room, out, y, z.nodes);
+    put_left_labels(src, z, z.nodes, z.edges, room, out, y, z.nodes);
     let new_body = form::body_row(y);
     let lists = put_left_edges(drawing, room, out, new_body);
     let n = z.sources + (z.targets + 2 * z.pairs);

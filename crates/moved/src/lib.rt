@@ -196,7 +196,7 @@ pub fn put_without_nodes(drawing: Drawing<'_>, y: Sizes, room: &[u8], map: &[u8]
     let lists = drawing.lists();
     let ids = z.sources + z.targets;
     write::put_header(out, y);
-    let nodes = left::put_left_labels(drawing, 0, z.nodes, room, out, y, 0);
+    let nodes = left::put_left_labels(drawing.src, z, 0, z.nodes, room, out, y, 0);
     le::copy_numbers(
         out,
         new_labels,

@@ -60,6 +60,7 @@ copy_numbers-requires c =
 pub put_left_labels-requires : goal.put_left_labels-requires
 put_left_labels-requires c =
     let at = (goal.at.put_left_labels-requires c).After-labels-labels in (
+      (stored_rows (stored_in c.args.drawing)).low,
       c.requires.stored.1.low,
       c.requires.stored.0,
       (stored_rows (stored_in c.args.drawing)).labels_held,

@@ -70,6 +70,7 @@ invariant_of-by c = record { inside = omega (arith, c.requires.stored.0.held.ins
 pub put_left_labels-nodes-requires : goal.put_left_labels-nodes-requires
 put_left_labels-nodes-requires c =
     let at = (goal.at.put_left_labels-nodes-requires c).After-lists-lists in (
+      (stored_rows (stored_in c.args.drawing)).low,
       c.requires.stored.1.low,
       c.requires.stored.2,
       holds_less (stored_rows (stored_in c.args.drawing)).labels_held _ (omega arith),
