@@ -41,14 +41,23 @@ pub fn put_field(out: &mut [u8], at: usize, word: &[u8], n: usize) -> usize
     put_number(out, next, n)
 }
 
+// A refusal told by its number, as the one line of a program's output.
+pub fn put_refused(out: &mut [u8], no: u32) -> usize
+    requires { 29 ≤ length out.old }
+    ensures printed { Printed out.old 0 (refused_line no) out.new result }
+    ensures prefix_len { IsPrefixLen result out.new }
+{
+    let next = put_field(out, 0, b"refused ", no as usize);
+    put_text(out, next, b"\n")
+}
+
 // A refusal as the one line of a program's output.
 pub fn put_refusal(out: &mut [u8], x: Refusal) -> usize
     requires { 29 ≤ length out.old }
     ensures printed { Printed out.old 0 (refused_line (meant_by x).no) out.new result }
     ensures prefix_len { IsPrefixLen result out.new }
 {
-    let next = put_field(out, 0, b"refused ", x.number() as usize);
-    put_text(out, next, b"\n")
+    put_refused(out, x.number())
 }
 
 // Reads until buf is full or the input ends, and answers how many bytes it put at the start of buf: the next ones of the input, and where they are fewer than buf holds, its last ones.
