@@ -1,20 +1,16 @@
 -- The marks in the work room: a byte that is not 0, of one of the first ids.
 -- Assumes nothing.
-use mathlib.Core.Bool.{Bool, true, false, cond, not, ◌&&◌, ◌||◌, or_assoc}
+use mathlib.Core.Bool.{Bool, true, false, not, ◌&&◌, ◌||◌, or_assoc}
 use mathlib.Core.List.{List, [], ◌∷◌, ◌++◌}
 use mathlib.Core.Path.{◌≡◌, refl, sym, ap, ◌∙◌}
-use Prim.Native.Nat.{ℕ, zero, suc, ◌+◌, ◌≤◌, ◌<◌}
-use native.Mathlib.Nat.{zero-add, add-zero}
-use native.Mathlib.Numerals.{add-one}
+use Prim.Native.Nat.{ℕ, ◌+◌, ◌≤◌, ◌<◌}
+use native.Mathlib.Nat.{zero-add}
 use native.Mathlib.Omega.{arith}
 use lib.Dec.{ltb, eqb}
-use lib.ListN.{length, get_or, set, take, replicate, length-replicate, get_or-replicate}
+use lib.ListN.{length, get_or, set, replicate, length-replicate, get_or-replicate}
 use lib.Seq.{sets, get_or-set_same, get_or-set_other}
 use borrow.Author.Tests.{lt-ltb, le-ltb, ltb-true, eqb-true, eqb-false, eq-eqb, ne_eqb}
-use Rattle.std.specs.Prelude.{◌==◌, count_by}
-use Rattle.std.proofs.lemmas.List.Sums.{count_by_more_yes, count_by_more_no}
 use Rattle.gone.specs.Marks.{marked}
-use Rattle.graph.specs.Delete.{new_id}
 use Rattle.graph.specs.Lists.{member, among}
 use Rattle.le.proofs.Tables.{get_d_sets}
 
@@ -30,16 +26,6 @@ module _ (room : List ℕ) (n id : ℕ) (less : id < n) where
 pub outside : (room : List ℕ) (n id : ℕ) → n ≤ id → marked room n id ≡ false
 unfolding marked
 outside room n id h = rw (le-ltb id n h)
-
--- as many of the first ids stay as bytes are 0
-pub zeros : (room : List ℕ) (n i : ℕ) → i ≤ n → n ≤ length room → count_by (λ mark. mark == 0) (take i room) ≡ new_id (marked room n) i
-zeros room n zero l h = refl
-zeros room n (suc i) l h = ap (λ (k : ℕ). count_by (λ (mark : ℕ). mark == 0) (take k room)) (sym (add-one i)) ∙ pick (get_or room i 0 == 0) refl (zeros room n i (omega arith) h)
-  where
-    pick : (c : Bool) → (get_or room i 0 == 0) ≡ c → count_by (λ (mark : ℕ). mark == 0) (take i room) ≡ new_id (marked room n) i
-        → count_by (λ (mark : ℕ). mark == 0) (take (i + 1) room) ≡ new_id (marked room n) i + cond (marked room n i) 0 1
-    pick true e first = rw (stays room n i (omega arith) (eqb-true (get_or room i 0) 0 e)) (count_by_more_yes (λ mark. mark == 0) room i 0 (omega arith) e ∙ ap (λ (k : ℕ). k + 1) first)
-    pick false e first = rw (goes room n i (omega arith) (eqb-false (get_or room i 0) 0 e)) (count_by_more_no (λ mark. mark == 0) room i 0 (omega arith) e ∙ first ∙ sym (add-zero _))
 
 -- ---- no mark, and one mark more
 

@@ -40,7 +40,11 @@ fn left(room: &[u8], n: usize) -> usize
     requires { n ≤ length room.now }
     ensures { result ≡ new_id (marked room.now n) n }
 {
-    room[..n].iter().filter(|mark| **mark == 0).count()
+    let mut stay: usize = 0;
+    for mark in &room[..n] {
+        stay += usize::from(*mark == 0);
+    }
+    stay
 }
 
 // How many ports the unmarked edges have.
